@@ -1,0 +1,132 @@
+-- Segments are read back from their bytes, those read are what the bytes say, and every segment has bytes. Assumes nothing.
+use Prim.Native.Nat.{ℕ, _+_, _*_, _^_, _≤_, _<_}
+use native.Mathlib.Nat.{add-mul}
+use native.Mathlib.Omega.{arith}
+use mathlib.Core.Path.{_≡_, refl, sym, ap, _∙_}
+use mathlib.Core.List.{List, [], _∷_, _++_}
+use mathlib.Core.Logic.{_⊎_, inl, inr}
+use lib.ListN.{length, getD, take, drop, length-append, length-drop}
+use lib.Seq.{take-add}
+use lib.Dec.{eqb}
+use Rattle.octets.specs.Choice.{pick}
+use Rattle.octets.specs.Numbers.{Octets, Field}
+use Rattle.octets.specs.Rows.{Joined}
+use Rattle.octets.proofs.Bytes.{octets-drop}
+use Rattle.octets.proofs.Rows.{Reads, total, items-cost}
+use Rattle.aspath.specs.Members.{Kind, set, sequence, Segment, members}
+use Rattle.aspath.specs.Wire.{kindCode, SegmentBytes, segmentSize, segmentOf, segmentsOf}
+use Rattle.octets.proofs.Encode.{bytesOf, bytes-field, Every, every-at, joined-exist, joined-length}
+use Rattle.aspath.proofs.Segments.{Stands, stands-size, size-stands, segment-sizes}
+use Rattle.aspath.proofs.NumberReads.{numbers-length, numbers-bytes, numbers-same, numbers-sound}
+
+-- the bytes of a segment
+abbrev pub segmentCost : ℕ → Segment → ℕ
+segmentCost w s = 2 + length (s .numbers) * w
+
+-- the code of a kind is one of the two, is read as that kind, and is that of the kind read
+kind-code : (k : Kind) → (kindCode k ≡ 1) ⊎ (kindCode k ≡ 2)
+kind-code set = inl refl
+kind-code sequence = inr refl
+
+kind-same : (k : Kind) → pick (eqb (kindCode k) 1) set sequence ≡ k
+kind-same set = refl
+kind-same sequence = refl
+
+kind-sound : {k : ℕ} → (k ≡ 1) ⊎ (k ≡ 2) → kindCode (pick (eqb k 1) set sequence) ≡ k
+kind-sound (inl e) = rw e refl
+kind-sound (inr e) = rw e refl
+
+-- the bytes of a segment are as many as its numbers ask for
+pub segment-length : (w : ℕ) {s : Segment} {bytes : List ℕ} → SegmentBytes w s bytes → length bytes ≡ segmentCost w s
+segment-length w x = ap length (x .joined) ∙ omega (arith, numbers-bytes w (x .numbers))
+
+-- a segment stands at the front of its bytes and what follows
+segment-stands : (w : ℕ) {s : Segment} {bytes : List ℕ} → SegmentBytes w s bytes → (rest : List ℕ) → Stands w (bytes ++ rest) 0
+segment-stands w {s} x rest = rw (x .joined) (record {
+  kind = kind-code (s .kind);
+  some = x .some;
+  fits = simp length-append (omega (arith, numbers-bytes w (x .numbers)));
+})
+
+-- the size is that of the segment, whatever follows it
+segment-exact : (w : ℕ) {s : Segment} {bytes : List ℕ} → SegmentBytes w s bytes → (rest : List ℕ) → segmentSize w (bytes ++ rest) ≡ length bytes
+segment-exact w {s} x rest =
+    stands-size w _ 0 (segment-stands w x rest) ∙ rw (x .joined) (omega (arith, numbers-bytes w (x .numbers)))
+
+-- and what is read is the segment
+segment-same : (w : ℕ) {s : Segment} {bytes : List ℕ} → SegmentBytes w s bytes → (rest : List ℕ) → segmentOf w (bytes ++ rest) ≡ s
+unfolding segmentOf
+segment-same w {s} x rest = rw (x .joined) (λ i. record { kind = kind-same (s .kind) i; numbers = numbers-same w (x .numbers) rest i })
+
+-- the bytes of a segment in their parts
+segment-joined : (w : ℕ) (l : List ℕ) → Stands w l 0
+    → take (2 + getD l 1 0 * w) l ≡ kindCode (segmentOf w l .kind) ∷ length (segmentOf w l .numbers) ∷ take (getD l 1 0 * w) (drop 2 l)
+unfolding segmentOf
+segment-joined w [] x = absurd (omega (arith, x .fits))
+segment-joined w (a ∷ []) x = absurd (omega (arith, x .fits))
+segment-joined w (k ∷ c ∷ body) x = take-add 2 (c * w) (k ∷ c ∷ body) ∙ rw (kind-sound (x .kind), numbers-length w c body)
+
+-- the bytes of the segment read are a segment's
+segment-sound : (w : ℕ) (l : List ℕ) → Octets l → (segmentSize w l ≡ 0 → ⊥) → SegmentBytes w (segmentOf w l) (take (segmentSize w l) l)
+unfolding segmentOf
+segment-sound w l o n =
+    let x = size-stands w l 0 n in
+    let c = getD l 1 0 in
+    let e = numbers-length w c (drop 2 l) in
+    record {
+      some = rw e (x .some);
+      few = rw e (o .below 1);
+      body = take (c * w) (drop 2 l);
+      joined = ap (λ (m : ℕ). take m l) (stands-size w l 0 x) ∙ segment-joined w l x;
+      numbers = numbers-sound w c (drop 2 l) (octets-drop 2 o) (simp length-drop (omega (arith, x .fits)));
+    }
+
+-- a segment is read back
+pub segment-reads : (w : ℕ) → Reads (SegmentBytes w) (segmentSize w) (segmentOf w)
+segment-reads w = record {
+  fits = segment-sizes w .fits;
+  some = λ x. omega (arith, segment-length w x);
+  exact = λ x rest. segment-exact w x rest;
+  same = λ x rest. segment-same w x rest;
+  sound = segment-sound w;
+}
+
+-- segments have two bytes each, and w for each number
+pub members-bytes : (w : ℕ) (ss : List Segment) → total (segmentCost w) ss ≡ 2 * length ss + length (members ss) * w
+unfolding total members
+members-bytes w [] = omega arith
+members-bytes w (s ∷ ss) =
+    simp length-append (omega (arith, members-bytes w ss, add-mul (length (s .numbers)) (length (members ss)) w))
+
+-- the segments of a body have no more bytes than it has
+pub members-count : (w : ℕ) (l : List ℕ) → total (segmentCost w) (segmentsOf w l) ≤ length l
+members-count w l = omega (arith, items-cost (segmentSize w) (segmentOf w) (segment-sizes w) (segmentCost w) 1 each l)
+  where
+    each : (l : List ℕ) → (segmentSize w l ≡ 0 → ⊥) → segmentCost w (segmentOf w l) ≤ 1 * segmentSize w l
+    each l n = rw (stands-size w l 0 (size-stands w l 0 n)) (unfold segmentOf in rw (numbers-length w (getD l 1 0) (drop 2 l)) (omega arith))
+
+-- ---- every segment has bytes
+
+-- a segment that has bytes: its numbers are 1 to 255, each of w bytes
+pub record Encodable (w : ℕ) (s : Segment) : Type 0 where
+  pub some : 1 ≤ length (s .numbers)
+  pub few : length (s .numbers) < 256
+  pub below : (i : ℕ) → getD (s .numbers) i 0 < 256 ^ w
+
+-- the bytes of a segment, and that they are
+segment-bytes : (w : ℕ) (s : Segment) → Encodable w s → (bytes : List ℕ) × SegmentBytes w s bytes
+segment-bytes w s x = (kindCode (s .kind) ∷ length (s .numbers) ∷ body .0, record { some = x .some; few = x .few; body = body .0; joined = refl; numbers = body .1 })
+  where
+    body : (bytes : List ℕ) × Joined (Field w) (s .numbers) bytes
+    body = joined-exist (λ n h. (bytesOf w n, bytes-field w n h)) (every-at {P = λ n. n < 256 ^ w} (s .numbers) (x .below))
+
+-- such a segment has bytes
+pub segment-exists : (w : ℕ) (s : Segment) → Encodable w s → (bytes : List ℕ) × SegmentBytes w s bytes × (length bytes ≡ segmentCost w s)
+segment-exists w s x = let b = segment-bytes w s x in (b .0, b .1, segment-length w (b .1))
+
+-- and so have such segments one after another
+pub segments-exist : (w : ℕ) {ss : List Segment} → Every (Encodable w) ss
+    → (bytes : List ℕ) × Joined (SegmentBytes w) ss bytes × (length bytes ≡ total (segmentCost w) ss)
+segments-exist w xs =
+    let b = joined-exist (segment-bytes w) xs in
+    (b .0, b .1, joined-length (segmentCost w) (λ s bytes x. segment-length w x) (b .1))

@@ -1,0 +1,149 @@
+-- Raw attributes are read back from their bytes, those read are what the bytes say, and every raw attribute has bytes. Assumes nothing.
+use Prim.Native.Nat.{ℕ, _+_, _^_, _≤_, _<_}
+use native.Mathlib.Nat.{lt-of-not-le, add-assoc}
+use native.Mathlib.Decide.{decLe}
+use native.Mathlib.Omega.{arith}
+use mathlib.Core.Path.{_≡_, refl, sym, ap, _∙_}
+use mathlib.Core.List.{List, [], _∷_, _++_, append-assoc}
+use lib.ListN.{length, take, drop, length-append, length-drop}
+use lib.Seq.{take-add, drop-drop, take-append-seam, drop-append-seam, length-take-le}
+use lib.Dec.{ltb}
+use borrow.Author.Tests.{le-leb, lt-leb, lt-ltb, le-ltb}
+use Rattle.octets.specs.Choice.{pick}
+use Rattle.octets.specs.Numbers.{Octets, numberAt}
+use Rattle.octets.proofs.Bytes.{octets-take, octets-drop, octets-append}
+use Rattle.octets.proofs.Numbers.{number-front, number-after, number-take}
+use Rattle.octets.proofs.Rows.{Reads}
+use Rattle.attributes.specs.Wire.{Raw, RawBytes, lengthWidth, headerSize, bodySize, attributeSize, rawOf}
+use Rattle.octets.proofs.Encode.{bytesOf, bytes-field, bytes-length, octets-one}
+
+-- ---- the attribute at the front
+
+raw-fits : (l : List ℕ) → attributeSize l ≤ length l
+unfolding attributeSize
+raw-fits l = go (decLe (headerSize l + bodySize l) (length l))
+  where
+    go : Dec (headerSize l + bodySize l ≤ length l) → attributeSize l ≤ length l
+    go (yes h) = simp (le-leb _ _ h) h
+    go (no h) = simp (lt-leb _ _ (lt-of-not-le h)) (omega arith)
+
+-- where a whole attribute stands, its header and its body fit
+stands : (l : List ℕ) → (attributeSize l ≡ 0 → ⊥) → headerSize l + bodySize l ≤ length l
+unfolding attributeSize
+stands l n = go (decLe (headerSize l + bodySize l) (length l))
+  where
+    go : Dec (headerSize l + bodySize l ≤ length l) → headerSize l + bodySize l ≤ length l
+    go (yes h) = h
+    go (no h) = absurd (n (simp (lt-leb _ _ (lt-of-not-le h))))
+
+-- where they fit, a whole attribute stands
+standing-size : (l : List ℕ) → headerSize l + bodySize l ≤ length l → attributeSize l ≡ headerSize l + bodySize l
+unfolding attributeSize
+standing-size l h = simp (le-leb _ _ h)
+
+-- ---- reading an attribute's bytes
+
+module _ {r : Raw} {bytes : List ℕ} (x : RawBytes r bytes) (rest : List ℕ) where
+  raw-header : headerSize (bytes ++ rest) ≡ 2 + length (x .size)
+  unfolding headerSize
+  raw-header = rw (x .joined, x .sized .long)
+
+  raw-body : bodySize (bytes ++ rest) ≡ length (r .body)
+  unfolding bodySize
+  raw-body =
+      let w = lengthWidth (x .flags) in
+      let h : 0 + w ≤ length (x .size) = omega (arith, x .sized .long) in
+      rw (x .joined)
+      (number-after (x .flags ∷ r .code ∷ []) (x .size ++ r .body ++ rest) 0 w
+      ∙ rw (append-assoc (x .size) (r .body) rest) (number-front (x .size) (r .body ++ rest) 0 w h)
+      ∙ x .sized .value)
+
+  raw-length : length bytes ≡ 2 + length (x .size) + length (r .body)
+  raw-length = ap length (x .joined) ∙ simp length-append (omega arith)
+
+  raw-stands : headerSize (bytes ++ rest) + bodySize (bytes ++ rest) ≤ length (bytes ++ rest)
+  raw-stands = simp (raw-header, raw-body, length-append) (omega (arith, raw-length))
+
+  raw-exact : attributeSize (bytes ++ rest) ≡ length bytes
+  raw-exact = standing-size (bytes ++ rest) raw-stands ∙ omega (arith, raw-header, raw-body, raw-length)
+
+  body-after : take (length (r .body)) (drop (2 + length (x .size)) (x .flags ∷ r .code ∷ (x .size ++ r .body ++ rest))) ≡ r .body
+  body-after =
+      rw (← drop-drop (length (x .size)) 2 (x .flags ∷ r .code ∷ (x .size ++ r .body ++ rest)), append-assoc (x .size) (r .body) rest)
+      (rw (drop-append-seam (x .size) (r .body ++ rest)) (take-append-seam (r .body) rest))
+
+  raw-same : rawOf (bytes ++ rest) ≡ r
+  unfolding rawOf
+  raw-same = rw (raw-header, raw-body, x .joined) (λ i. record { code = r .code; body = body-after i })
+
+-- ---- what is read
+
+raw-sound : (l : List ℕ) → Octets l → headerSize l + bodySize l ≤ length l → RawBytes (rawOf l) (take (headerSize l + bodySize l) l)
+unfolding headerSize bodySize rawOf
+raw-sound [] o h = absurd (omega arith)
+raw-sound (f ∷ []) o h = absurd (omega arith)
+raw-sound (f ∷ c ∷ l) o h =
+    let w = lengthWidth f in
+    let n = numberAt (f ∷ c ∷ l) 2 w in
+    let body : length (take n (drop (2 + w) (f ∷ c ∷ l))) ≡ n = length-take-le n (drop (2 + w) (f ∷ c ∷ l)) (simp length-drop (omega arith)) in
+    record {
+      flags = f;
+      flag-byte = o .below 0;
+      code-byte = o .below 1;
+      octets = octets-take n (octets-drop (2 + w) o);
+      size = take w l;
+      sized = record {
+        long = length-take-le w l (omega arith);
+        octets = octets-take w (octets-drop 2 o);
+        value = number-take l w 0 w (omega arith) ∙ sym (number-after (f ∷ c ∷ []) l 0 w) ∙ sym body;
+      };
+      joined = rw (add-assoc 2 w n) (take-add 2 (w + n) (f ∷ c ∷ l))
+          ∙ ap (λ (t : List ℕ). f ∷ c ∷ t) (take-add w n l ∙ ap (λ (t : List ℕ). take w l ++ take n t) (drop-drop w 2 (f ∷ c ∷ l)));
+    }
+
+-- a raw attribute is read back
+pub raw-reads : Reads RawBytes attributeSize rawOf
+raw-reads = record {
+  fits = raw-fits;
+  some = λ x. omega (arith, raw-length x []);
+  exact = λ x rest. raw-exact x rest;
+  same = λ x rest. raw-same x rest;
+  sound = λ l o n. let h = stands l n in rw (standing-size l h) (raw-sound l o h);
+}
+
+-- the bytes of a raw attribute are bytes
+pub raw-octets : {r : Raw} {bytes : List ℕ} → RawBytes r bytes → Octets bytes
+raw-octets {r} x =
+    rw (x .joined)
+    (octets-append (octets-one (x .flags) (x .flag-byte))
+    (octets-append (octets-one (r .code) (x .code-byte)) (octets-append (x .sized .octets) (x .octets))))
+
+-- ---- every raw attribute has bytes
+
+-- the bytes of an attribute with a body of n bytes: its length is one byte where that will do
+unfoldable pub withHeader : ℕ → ℕ
+withHeader n = n + pick (ltb n 256) 3 4
+
+-- the bytes of a raw attribute
+abbrev pub rawSize : Raw → ℕ
+rawSize r = withHeader (length (r .body))
+
+with-flags : (r : Raw) (flags : ℕ) → flags < 256 → r .code < 256 → Octets (r .body) → length (r .body) < 256 ^ lengthWidth flags
+    → (bytes : List ℕ) × RawBytes r bytes × (length bytes ≡ length (r .body) + (2 + lengthWidth flags))
+with-flags r flags f c o h =
+    let w = lengthWidth flags in
+    let size = bytesOf w (length (r .body)) in (
+      flags ∷ r .code ∷ (size ++ r .body),
+      record { flags = flags; flag-byte = f; code-byte = c; octets = o; size = size; sized = bytes-field w (length (r .body)) h; joined = refl },
+      simp length-append (omega (arith, bytes-length w (length (r .body)))),
+    )
+
+-- a raw attribute of a code and a body that fit has bytes
+pub raw-exists : (r : Raw) → r .code < 256 → Octets (r .body) → length (r .body) < 65536
+    → (bytes : List ℕ) × RawBytes r bytes × (length bytes ≡ rawSize r)
+unfolding withHeader lengthWidth
+raw-exists r c o h = go (decLe 256 (length (r .body)))
+  where
+    go : Dec (256 ≤ length (r .body)) → (bytes : List ℕ) × RawBytes r bytes × (length bytes ≡ rawSize r)
+    go (yes long) = rw (le-ltb _ _ long) (with-flags r 16 (omega arith) c o h)
+    go (no short) = rw (lt-ltb _ _ (lt-of-not-le short)) (with-flags r 0 (omega arith) c o (lt-of-not-le short))

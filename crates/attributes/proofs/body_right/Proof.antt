@@ -1,0 +1,52 @@
+-- `attributes::body_right` meets its contract: an arm for each code that is looked at. Assumes nothing.
+use mathlib.Core.Path.{refl}
+use borrow.Author.Needs.{needs}
+use borrow.Author.Tests.{eq-eqb, ne-eqb}
+use Rattle.attributes.specs.Bodies.{bodyRight}
+use Rattle.attributes.proofs.body_right.Statement.{statement}
+use Rattle.attributes.proofs.body_right.Tie as tie
+
+returns : tie.Need-returns
+unfolding bodyRight
+returns c = rw (c .before .match .keys1) (simp (ne-eqb _ _ (c .if1 .taken)))
+
+shared-slice-read-result : tie.Need-shared-slice-read-result
+shared-slice-read-result c = search needs
+
+well-formed-requires : tie.Need-well-formed-requires
+well-formed-requires c κs = search needs
+
+returns-2 : tie.Need-returns-2
+unfolding bodyRight
+returns-2 c = rw (c .before .before .match .keys1) (simp (eq-eqb _ _ (c .before .if1 .left)))
+
+returns-3 : tie.Need-returns-3
+unfolding bodyRight
+returns-3 c = rw (c .before .match .keys2) (c .well-formed .ensures)
+
+returns-4 : tie.Need-returns-4
+unfolding bodyRight
+returns-4 c = rw (c .match .keys3) refl
+
+returns-5 : tie.Need-returns-5
+unfolding bodyRight
+returns-5 c = rw (c .match .keys4) refl
+
+returns-6 : tie.Need-returns-6
+unfolding bodyRight
+returns-6 c =
+    let n = c .match .rest in
+    simp (ne-eqb _ 1 (n .0 .0 .0 .1), ne-eqb _ 2 (n .0 .0 .1), ne-eqb _ 3 (n .0 .1), ne-eqb _ 6 (n .1))
+
+pub body-right-spec : {M : Type 1} → statement M
+body-right-spec =
+    tie.close
+    (tie.spec
+    returns
+    shared-slice-read-result
+    well-formed-requires
+    returns-2
+    returns-3
+    returns-4
+    returns-5
+    returns-6)

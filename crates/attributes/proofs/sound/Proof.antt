@@ -1,0 +1,134 @@
+-- `attributes::sound` meets its contract. The loop's invariant: the section is sound just where the rest of it is with the codes
+-- that the words mark. Assumes nothing.
+use Prim.Native.Nat.{_+_, _-_, _/_, _%_, _^_, _≤_}
+use native.Mathlib.Omega.{arith}
+use mathlib.Core.Path.{_≡_, refl, sym, _∙_}
+use mathlib.Core.Bool.{false}
+use lib.ListN.{length, getD, replicate, drop, length-drop, length-set}
+use borrow.Author.Needs.{needs}
+use denote.Ref.{now}
+use Rattle.octets.specs.Choice.{pick}
+use Rattle.octets.specs.Rows.{whole}
+use Rattle.attributes.specs.Wire.{attributeSize, rawsOf, codes}
+use Rattle.attributes.specs.Codes.{distinct}
+use Rattle.attributes.proofs.Sizes.{number-one, step}
+use Rattle.attributes.proofs.Marks.{marks, bit-clear, none-marked, marking-adds}
+use Rattle.attributes.proofs.Walks.{soundWith, sound-start, sound-end, sound-bad, sound-marked, sound-next}
+use Rattle.attributes.proofs.sound.Statement.{statement}
+use Rattle.attributes.proofs.sound.Tie as tie
+
+abbrev Inv-loop : tie.InvT-loop
+Inv-loop s seen₀ at₀ seen at =
+    (at ≤ length s) × (length seen ≡ 4) × (soundWith (marks seen) (drop at s) ≡ pick (whole attributeSize s) (distinct (codes (rawsOf s))) false)
+
+abbrev μ-loop : tie.MeasureT-loop
+μ-loop s seen₀ at₀ seen at = length s - at
+
+loop-holds : tie.Need-loop-holds Inv-loop μ-loop
+loop-holds c = (omega arith, refl, sound-start (now (c .before .args .s)) (marks (replicate 4 0)) (none-marked 4))
+
+attribute-size-requires : tie.Need-attribute-size-requires Inv-loop μ-loop
+attribute-size-requires c κs = search needs
+
+returns : tie.Need-returns Inv-loop μ-loop
+returns c =
+    let s = now (c .before .before .before .before .before .args .s) in
+    let l = c .before .before .before .loop in
+    sym (sound-bad (drop (l .at) s) (marks (l .seen)) (simp length-drop (omega arith)) (sym (c .before .attribute-size .ensures) ∙ c .if1 .taken)) ∙ l .inv .2
+
+add-number : tie.Need-add-number Inv-loop μ-loop
+add-number c = search needs
+
+number-requires : tie.Need-number-requires Inv-loop μ-loop
+number-requires c κs = search needs
+
+cast-word : tie.Need-cast-word Inv-loop μ-loop
+cast-word c = search needs
+
+mul-marks : tie.Need-mul-marks Inv-loop μ-loop
+mul-marks c = search needs
+
+array-read-marks : tie.Need-array-read-marks Inv-loop μ-loop
+array-read-marks c =
+    let s = now (c .before .before .before .before .before .before .args .s) in
+    let i = c .before .before .before .before .loop .at + 1 in
+    let e : c .number .result ≡ getD s i 0 = c .number .ensures ∙ number-one s i in
+    omega (arith, c .before .before .before .before .before .shared-slice-known .given i)
+
+marked-requires : tie.Need-marked-requires Inv-loop μ-loop
+marked-requires c κs = search needs
+
+returns-2 : tie.Need-returns-2 Inv-loop μ-loop
+returns-2 c =
+    let s = now (c .before .before .before .before .before .before .before .before .args .s) in
+    let l = c .before .before .before .before .before .before .loop in
+    let x = step s (l .at) _ (c .before .before .before .before .attribute-size .ensures) (c .before .before .before .if1 .left) in
+    let n = c .before .before .number in
+    let e : getD (drop (l .at) s) 1 0 ≡ n .result = x .code ∙ sym (n .ensures ∙ number-one s (l .at + 1)) in
+    sym (sound-marked (drop (l .at) s) (x .some) e (marks (l .seen)) (sym (c .before .marked .ensures) ∙ c .if2 .taken)) ∙ l .inv .2
+
+mark-requires : tie.Need-mark-requires Inv-loop μ-loop
+mark-requires c κs =
+    let n = c .before .before .number .result in
+    (omega arith, bit-clear (getD (c .before .before .before .before .before .before .loop .seen) (n / 64) 0 / 2 ^ (n % 64)) (sym (c .before .marked .ensures) ∙ c .if2 .left))
+
+mul-seen : tie.Need-mul-seen Inv-loop μ-loop
+mul-seen c = mul-marks (c .before .before .before)
+
+array-write-seen : tie.Need-array-write-seen Inv-loop μ-loop
+array-write-seen c = array-read-marks (c .before .before .before)
+
+add-at : tie.Need-add-at Inv-loop μ-loop
+add-at c =
+    let s = now (c .before .before .before .before .before .before .before .before .before .args .s) in
+    let l = c .before .before .before .before .before .before .before .loop in
+    let x = step s (l .at) _ (c .before .before .before .before .before .attribute-size .ensures) (c .before .before .before .before .if1 .left) in
+    omega arith
+
+loop-less : tie.Need-loop-less Inv-loop μ-loop
+loop-less c =
+    let s = now (c .before .before .before .before .before .before .before .before .before .args .s) in
+    let l = c .before .before .before .before .before .before .before .loop in
+    let x = step s (l .at) _ (c .before .before .before .before .before .attribute-size .ensures) (c .before .before .before .before .if1 .left) in
+    omega arith
+
+loop-again : tie.Need-loop-again Inv-loop μ-loop
+loop-again c =
+    let s = now (c .before .before .before .before .before .before .before .before .before .args .s) in
+    let l = c .before .before .before .before .before .before .before .loop in
+    let x = step s (l .at) _ (c .before .before .before .before .before .attribute-size .ensures) (c .before .before .before .before .if1 .left) in
+    let n = c .before .before .before .number in
+    let e : getD (drop (l .at) s) 1 0 ≡ n .result = x .code ∙ sym (n .ensures ∙ number-one s (l .at + 1)) in
+    let u : marks (l .seen) (n .result) ≡ false = sym (c .before .before .marked .ensures) ∙ c .before .if2 .left in
+    let a = marking-adds (l .seen) (n .result) (rw (l .inv .1) (array-read-marks (c .before .before .before))) u in
+    (x .fits, simp length-set (l .inv .1), rw (c .mark .ensures, ← x .next) (sym (sound-next (drop (l .at) s) (x .some) e a u) ∙ l .inv .2))
+
+returns-3 : tie.Need-returns-3 Inv-loop μ-loop
+returns-3 c =
+    let l = c .before .loop in
+    let s = now (c .before .before .before .args .s) in
+    sym (sound-end (drop (l .at) s) (marks (l .seen)) (simp length-drop (omega arith))) ∙ l .inv .2
+
+pub sound-spec : {M : Type 1} → statement M
+sound-spec =
+    tie.close
+    (tie.spec
+    Inv-loop
+    μ-loop
+    loop-holds
+    attribute-size-requires
+    returns
+    add-number
+    number-requires
+    cast-word
+    mul-marks
+    array-read-marks
+    marked-requires
+    returns-2
+    mark-requires
+    mul-seen
+    array-write-seen
+    add-at
+    loop-less
+    loop-again
+    returns-3)

@@ -1,0 +1,62 @@
+-- The attributes of an UPDATE, with what those that are looked at say.
+use Prim.Native.Nat.{ℕ}
+use mathlib.Core.Bool.{Bool, true, false}
+use mathlib.Core.List.{List, [], _∷_}
+use mathlib.Core.Option.{Option, some, none}
+use Rattle.aspath.specs.Members.{Segment}
+
+pub data Attribute : Type 0 where
+  -- 0 IGP, 1 EGP, 2 incomplete
+  origin : ℕ → Attribute
+  asPath : List Segment → Attribute
+  -- an address
+  nextHop : ℕ → Attribute
+  atomicAggregate : Attribute
+  -- any other, by its code and its body
+  other : ℕ → List ℕ → Attribute
+
+unfoldable pub codeOf : Attribute → ℕ
+codeOf (origin n) = 1
+codeOf (asPath segments) = 2
+codeOf (nextHop a) = 3
+codeOf atomicAggregate = 6
+codeOf (other code body) = code
+
+-- ---- what a list of attributes says
+
+abbrev pub orElse : {A : Type 0} → Option A → Option A → Option A
+orElse (some x) y = some x
+orElse none y = y
+
+-- the first that a question answers
+unfoldable pub firstOf : {A : Type 0} → (Attribute → Option A) → List Attribute → Option A
+firstOf ask [] = none
+firstOf ask (a ∷ more) = orElse (ask a) (firstOf ask more)
+
+unfoldable pub askOrigin : Attribute → Option ℕ
+askOrigin (origin n) = some n
+askOrigin (asPath segments) = none
+askOrigin (nextHop a) = none
+askOrigin atomicAggregate = none
+askOrigin (other code body) = none
+
+unfoldable pub askPath : Attribute → Option (List Segment)
+askPath (origin n) = none
+askPath (asPath segments) = some segments
+askPath (nextHop a) = none
+askPath atomicAggregate = none
+askPath (other code body) = none
+
+unfoldable pub askNextHop : Attribute → Option ℕ
+askNextHop (origin n) = none
+askNextHop (asPath segments) = none
+askNextHop (nextHop a) = some a
+askNextHop atomicAggregate = none
+askNextHop (other code body) = none
+
+unfoldable pub askAtomic : Attribute → Option (Unit {0})
+askAtomic (origin n) = none
+askAtomic (asPath segments) = none
+askAtomic (nextHop a) = none
+askAtomic atomicAggregate = some tt
+askAtomic (other code body) = none

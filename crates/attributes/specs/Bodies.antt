@@ -1,0 +1,72 @@
+-- The bodies that are looked at, over the width w of an AS number in bytes.
+use Prim.Native.Nat.{ℕ, _≤_, _<_}
+use mathlib.Core.Path.{_≡_}
+use mathlib.Core.Bool.{Bool, true, false}
+use mathlib.Core.List.{List, [], _∷_, map}
+use lib.ListN.{length, getD}
+use lib.Dec.{leb, eqb}
+use Rattle.octets.specs.Choice.{pick}
+use Rattle.octets.specs.Numbers.{numberAt, Field}
+use Rattle.octets.specs.Rows.{Joined, whole}
+use Rattle.aspath.specs.Members.{Segment}
+use Rattle.aspath.specs.Wire.{SegmentBytes, segmentSize, segmentsOf}
+use Rattle.attributes.specs.Attribute.{Attribute, origin, asPath, nextHop, atomicAggregate, other, codeOf}
+use Rattle.attributes.specs.Wire.{Raw, RawBytes, rawsOf}
+
+-- a code whose body is free
+pub record Unchecked (code : ℕ) : Type 0 where
+  pub no-origin : code ≡ 1 → ⊥
+  pub no-path : code ≡ 2 → ⊥
+  pub no-next-hop : code ≡ 3 → ⊥
+  pub no-atomic : code ≡ 6 → ⊥
+
+-- the body that says an attribute: ORIGIN one byte 0 to 2; AS_PATH none or more segments; NEXT_HOP an address of 4 bytes;
+-- ATOMIC_AGGREGATE none; any other is free
+abbrev pub HasBody : ℕ → Attribute → List ℕ → Type 0
+HasBody w (origin n) body = (n ≤ 2) × (body ≡ n ∷ [])
+HasBody w (asPath segments) body = Joined (SegmentBytes w) segments body
+HasBody w (nextHop a) body = Field 4 a body
+HasBody w atomicAggregate body = body ≡ []
+HasBody w (other code bytes) body = Unchecked code × (body ≡ bytes)
+
+-- a raw attribute says an attribute
+pub record Says (w : ℕ) (a : Attribute) (r : Raw) : Type 0 where
+  pub coded : codeOf a ≡ r .code
+  pub body : HasBody w a (r .body)
+
+-- these bytes are an attribute
+pub record AttributeBytes (w : ℕ) (a : Attribute) (bytes : List ℕ) : Type 0 where
+  pub raw : Raw
+  pub wire : RawBytes raw bytes
+  pub says : Says w a raw
+
+-- some attribute of a list says nothing: its body is wrong
+pub record SomeWrong (w : ℕ) (raws : List Raw) : Type 0 where
+  pub place : ℕ
+  pub within : place < length raws
+  pub wrong : (a : Attribute) → Says w a (getD raws place (record { code = 0; body = [] })) → ⊥
+
+-- ---- what the code computes
+
+unfoldable pub bodyRight : ℕ → ℕ → List ℕ → Bool
+bodyRight w code body =
+    pick (eqb code 1) (pick (eqb (length body) 1) (leb (getD body 0 0) 2) false)
+    (pick (eqb code 2) (whole (segmentSize w) body)
+    (pick (eqb code 3) (eqb (length body) 4)
+    (pick (eqb code 6) (eqb (length body) 0) true)))
+
+unfoldable pub allRight : ℕ → List Raw → Bool
+allRight w [] = true
+allRight w (r ∷ more) = pick (bodyRight w (r .code) (r .body)) (allRight w more) false
+
+-- what a raw attribute says, where its body is right
+unfoldable pub said : ℕ → Raw → Attribute
+said w r =
+    pick (eqb (r .code) 1) (origin (getD (r .body) 0 0))
+    (pick (eqb (r .code) 2) (asPath (segmentsOf w (r .body)))
+    (pick (eqb (r .code) 3) (nextHop (numberAt (r .body) 0 4))
+    (pick (eqb (r .code) 6) atomicAggregate (other (r .code) (r .body)))))
+
+-- the attributes of a section
+abbrev pub attributesOf : ℕ → List ℕ → List Attribute
+attributesOf w l = map (said w) (rawsOf l)

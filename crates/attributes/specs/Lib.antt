@@ -1,0 +1,5 @@
+pub mod Attribute
+pub mod Wire
+pub mod Codes
+pub mod Bodies
+pub mod Finding

@@ -1,0 +1,51 @@
+-- An attribute on the wire (RFC 4271, section 4.3), its body not yet looked at.
+use Prim.Native.Nat.{ℕ, _+_, _/_, _%_, _<_}
+use mathlib.Core.Path.{_≡_}
+use mathlib.Core.List.{List, [], _∷_, _++_}
+use lib.ListN.{length, getD, take, drop}
+use lib.Dec.{leb, eqb}
+use Rattle.octets.specs.Choice.{pick}
+use Rattle.octets.specs.Numbers.{Octets, numberAt, Field}
+use Rattle.octets.specs.Rows.{items}
+
+-- a code and a body
+pub record Raw : Type 0 where
+  pub code : ℕ
+  pub body : List ℕ
+
+-- the flag 0x10 makes the length two bytes
+unfoldable pub lengthWidth : ℕ → ℕ
+lengthWidth flags = pick (eqb (flags / 16 % 2) 1) 2 1
+
+-- these bytes are an attribute: flags, its code, the length of its body, and its body; the other flags are free
+pub record RawBytes (r : Raw) (bytes : List ℕ) : Type 0 where
+  pub flags : ℕ
+  pub flag-byte : flags < 256
+  pub code-byte : r .code < 256
+  pub octets : Octets (r .body)
+  pub size : List ℕ
+  pub sized : Field (lengthWidth flags) (length (r .body)) size
+  pub joined : bytes ≡ flags ∷ r .code ∷ (size ++ r .body)
+
+-- ---- what the code computes, of the attribute at the front
+
+unfoldable pub headerSize : List ℕ → ℕ
+headerSize l = 2 + lengthWidth (getD l 0 0)
+
+unfoldable pub bodySize : List ℕ → ℕ
+bodySize l = numberAt l 2 (lengthWidth (getD l 0 0))
+
+-- its bytes, 0 where no whole one stands there
+unfoldable pub attributeSize : List ℕ → ℕ
+attributeSize l = pick (leb (headerSize l + bodySize l) (length l)) (headerSize l + bodySize l) 0
+
+unfoldable pub rawOf : List ℕ → Raw
+rawOf l = record { code = getD l 1 0; body = take (bodySize l) (drop (headerSize l) l) }
+
+-- the attributes of a section
+abbrev pub rawsOf : List ℕ → List Raw
+rawsOf l = items attributeSize rawOf l
+
+unfoldable pub codes : List Raw → List ℕ
+codes [] = []
+codes (r ∷ more) = r .code ∷ codes more

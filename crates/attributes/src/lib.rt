@@ -1,0 +1,158 @@
+// Path attributes of an UPDATE: flags, a code, a length of one byte or two, and a body.
+ghost use mathlib.Core.Path.{_≡_};
+ghost use mathlib.Core.Bool.{false};
+ghost use Prim.Native.Nat.{_+_, _*_, _/_, _%_, _^_, _<_, _≤_};
+ghost use lib.ListN.{length, drop};
+ghost use lib.Dec.{eqb};
+ghost use Rattle.octets.specs.Choice.{pick};
+ghost use Rattle.octets.specs.Rows.{whole};
+ghost use Rattle.aspath.specs.Wire.{bytes};
+ghost use Rattle.attributes.specs.Wire.{lengthWidth, headerSize, bodySize, attributeSize, rawsOf, codes};
+ghost use Rattle.attributes.specs.Codes.{distinct};
+ghost use Rattle.attributes.specs.Bodies.{bodyRight, allRight};
+ghost use Rattle.attributes.specs.Finding.{findOf};
+use aspath::Width;
+
+// Where the body of an attribute stands in its section.
+pub enum Found {
+    At { start: usize, len: usize },
+    Absent,
+}
+
+// The flag 0x10 makes the length two bytes.
+fn length_width(flags: u32) -> usize
+    ensures { λ r. ⌜ (r ≡ lengthWidth flags) × (r ≤ 2) ⌝ }
+{
+    if flags / 16 % 2 == 1 {
+        return 2;
+    }
+    1
+}
+
+// The bytes before the body of the attribute at a place.
+fn header_size(s: &[u8], at: usize) -> usize
+    ensures { λ r. ⌜ (r ≡ headerSize (drop at (now (s .entry)))) × (r ≤ 4) ⌝ }
+{
+    2 + length_width(octets::number(s, at, 1))
+}
+
+// The bytes of that body, as its length says.
+fn body_size(s: &[u8], at: usize) -> usize
+    requires { ⌜ at < length (now s) ⌝ }
+    ensures { λ r. ⌜ (r ≡ bodySize (drop at (now (s .entry)))) × (r < 65536) ⌝ }
+{
+    let width = length_width(octets::number(s, at, 1));
+    octets::number(s, at + 2, width) as usize
+}
+
+// The bytes of the attribute at a place, 0 where no whole one stands there.
+pub fn attribute_size(s: &[u8], at: usize) -> usize
+    ensures { λ r. ⌜ r ≡ attributeSize (drop at (now (s .entry))) ⌝ }
+{
+    if s.len() <= at {
+        return 0;
+    }
+    let size = header_size(s, at) + body_size(s, at);
+    if s.len() - at < size {
+        return 0;
+    }
+    size
+}
+
+// Whether a bit of a word is set.
+fn marked(word: u64, bit: u32) -> bool
+    requires { ⌜ bit < 64 ⌝ }
+    ensures { λ r. ⌜ r ≡ eqb (word / 2 ^ bit % 2) 1 ⌝ }
+{
+    (word >> bit) % 2 == 1
+}
+
+// A word with one more bit set.
+fn mark(word: u64, bit: u32) -> u64
+    requires { ⌜ (bit < 64) × (word / 2 ^ bit % 2 ≡ 0) ⌝ }
+    ensures { λ r. ⌜ r ≡ word + 2 ^ bit ⌝ }
+{
+    word + (1 << bit)
+}
+
+// Whether a section is attributes to its end, no code twice. The codes seen are the bits of four words.
+pub fn sound(s: &[u8]) -> bool
+    ensures { λ r. ⌜ r ≡ pick (whole attributeSize (now (s .entry))) (distinct (codes (rawsOf (now (s .entry))))) false ⌝ }
+{
+    let mut seen = [0u64; 4];
+    let mut at = 0;
+    while at < s.len() {
+        let size = attribute_size(s, at);
+        if size == 0 {
+            return false;
+        }
+        let code = octets::number(s, at + 1, 1);
+        let word = (code / 64) as usize;
+        let marks = seen[word];
+        if marked(marks, code % 64) {
+            return false;
+        }
+        seen[word] = mark(marks, code % 64);
+        at += size;
+    }
+    true
+}
+
+// Whether the body of an attribute is as its code asks: ORIGIN, AS_PATH, NEXT_HOP and ATOMIC_AGGREGATE are looked at, others are free.
+fn body_right(code: u32, body: &[u8], width: Width) -> bool
+    ensures { λ r. ⌜ r ≡ bodyRight (bytes width) code (now (body .entry)) ⌝ }
+{
+    match code {
+        1 => {
+            if body.len() != 1 {
+                return false;
+            }
+            body[0] <= 2
+        }
+        2 => aspath::well_formed(body, width),
+        3 => body.len() == 4,
+        6 => body.len() == 0,
+        _ => true,
+    }
+}
+
+// Whether every body of a section is right.
+pub fn bodies_right(s: &[u8], width: Width) -> bool
+    ensures { λ r. ⌜ r ≡ allRight (bytes width) (rawsOf (now (s .entry))) ⌝ }
+{
+    let mut at = 0;
+    while at < s.len() {
+        let size = attribute_size(s, at);
+        if size == 0 {
+            return true;
+        }
+        let code = octets::number(s, at + 1, 1);
+        let start = at + header_size(s, at);
+        let end = at + size;
+        if !body_right(code, &s[start..end], width) {
+            return false;
+        }
+        at = end;
+    }
+    true
+}
+
+// The body of the first attribute of a section with a code.
+pub fn find(s: &[u8], code: u8) -> Found
+    ensures { λ r. ⌜ r ≡ findOf code (now (s .entry)) ⌝ }
+{
+    let mut at = 0;
+    while at < s.len() {
+        let size = attribute_size(s, at);
+        if size == 0 {
+            return Found::Absent;
+        }
+        if s[at + 1] == code {
+            let start = at + header_size(s, at);
+            let len = body_size(s, at);
+            return Found::At { start, len };
+        }
+        at += size;
+    }
+    Found::Absent
+}

@@ -1,0 +1,4 @@
+pub mod Clearing
+pub mod Covers
+pub mod Prefixes
+pub mod Texts

@@ -1,0 +1,3 @@
+pub mod Networks
+pub mod Wire
+pub mod Text

@@ -1,0 +1,9 @@
+pub mod Bytes
+pub mod Choices
+pub mod Numbers
+pub mod Fields
+pub mod Writes
+pub mod Decimal
+pub mod Rows
+pub mod Encode
+pub mod Items

@@ -1,0 +1,5 @@
+pub mod Choice
+pub mod Numbers
+pub mod Writes
+pub mod Decimal
+pub mod Rows

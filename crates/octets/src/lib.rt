@@ -1,0 +1,89 @@
+// Bytes: big-endian numbers, clipped writes and decimal digits. Every function takes any slice and any place.
+ghost use mathlib.Core.Path.{_≡_};
+ghost use mathlib.Core.List.{[], _∷_};
+ghost use lib.ListN.{getD, take, drop};
+ghost use Prim.Native.Nat.{_<_};
+ghost use lib.Dec.{leb};
+ghost use Rattle.octets.specs.Choice.{pick};
+ghost use Rattle.octets.specs.Numbers.{numberAt};
+ghost use Rattle.octets.specs.Writes.{Written};
+ghost use Rattle.octets.specs.Decimal.{decimal};
+
+// The byte at a place, 0 past the end.
+fn octet(s: &[u8], at: usize) -> u32
+    ensures { λ r. ⌜ (r ≡ getD (now (s .entry)) at 0) × (r < 256) ⌝ }
+{
+    if at < s.len() {
+        return s[at] as u32;
+    }
+    0
+}
+
+// The number in the width bytes at a place, the most significant first. A byte past the end reads 0, and so does a number of
+// more than four bytes.
+pub fn number(s: &[u8], at: usize, width: usize) -> u32
+    ensures { λ r. ⌜ r ≡ pick (leb width 4) (numberAt (now (s .entry)) at width) 0 ⌝ }
+{
+    if 4 < width {
+        return 0;
+    }
+    if s.len() <= at {
+        return 0;
+    }
+    let mut n: u32 = 0;
+    let mut i: usize = 0;
+    while i < width {
+        n = n * 256 + octet(s, at + i);
+        i += 1;
+    }
+    n
+}
+
+// What a slice holds from a place on, at most len bytes of it.
+pub fn part(s: &[u8], start: usize, len: usize) -> &[u8]
+    ensures { λ r. ⌜ now r ≡ take len (drop start (now (s .entry))) ⌝ }
+{
+    if s.len() <= start {
+        return &s[..0];
+    }
+    if s.len() - start <= len {
+        return &s[start..];
+    }
+    let end = start + len;
+    &s[start..end]
+}
+
+// What a slice holds from a place on.
+pub fn rest(s: &[u8], from: usize) -> &[u8]
+    ensures { λ r. ⌜ now r ≡ drop from (now (s .entry)) ⌝ }
+{
+    if s.len() <= from {
+        return &s[..0];
+    }
+    &s[from..]
+}
+
+// Writes a byte where the buffer reaches that far, and answers the next place: a run over an empty buffer measures.
+pub fn put(out: &mut [u8], at: usize, b: u8) -> usize
+    ensures { λ r. ⌜ Written (now (out .entry)) at (b ∷ []) (now (out .exit)) r ⌝ }
+{
+    if at < out.len() {
+        out[at] = b;
+        return at + 1;
+    }
+    if at == 18446744073709551615 {
+        return at;
+    }
+    at + 1
+}
+
+// Writes a number's decimal digits.
+pub fn put_decimal(out: &mut [u8], at: usize, n: u32) -> usize
+    ensures { λ r. ⌜ Written (now (out .entry)) at (decimal n) (now (out .exit)) r ⌝ }
+{
+    if n < 10 {
+        return put(out, at, (n + 48) as u8);
+    }
+    let next = put_decimal(out, at, n / 10);
+    put(out, next, (n % 10 + 48) as u8)
+}
