@@ -1,6 +1,6 @@
 -- Laws of the attribute at the front of some bytes: where one stands, and its size. Assumes nothing.
 use Prim.Native.Nat.{ℕ, _+_, _-_, _/_, _%_, _≤_, _<_}
-use native.Mathlib.Nat.{lt-of-not-le, zero-add, add-zero}
+use native.Mathlib.Nat.{lt-of-not-le, add-zero}
 use native.Mathlib.Decide.{decLe, ℕ-discrete}
 use native.Mathlib.Omega.{arith}
 use mathlib.Core.Path.{_≡_, refl, _∙_}
@@ -13,11 +13,6 @@ use Rattle.octets.specs.Numbers.{numberAt}
 use Rattle.octets.proofs.Numbers.{number-lt, number-drop}
 use Rattle.octets.proofs.Rows.{Sizes}
 use Rattle.attributes.specs.Wire.{lengthWidth, headerSize, bodySize, attributeSize}
-
--- the number in one byte
-pub number-one : (s : List ℕ) (at : ℕ) → numberAt s at 1 ≡ getD s at 0
-unfolding numberAt
-number-one s at = rw (add-zero, zero-add) refl
 
 -- the length is two bytes under the flag
 pub width-two : (flags : ℕ) → flags / 16 % 2 ≡ 1 → lengthWidth flags ≡ 2

@@ -10,7 +10,8 @@ use denote.Ref.{now}
 use Rattle.aspath.specs.Wire.{bytes}
 use Rattle.attributes.specs.Wire.{attributeSize, rawsOf}
 use Rattle.attributes.specs.Bodies.{allRight}
-use Rattle.attributes.proofs.Sizes.{number-one, attribute-sizes, step, body-part}
+use Rattle.octets.proofs.Numbers.{number-one}
+use Rattle.attributes.proofs.Sizes.{attribute-sizes, step, body-part}
 use Rattle.attributes.proofs.Walks.{right-end, right-wrong, right-next}
 use Rattle.attributes.proofs.bodies_right.Statement.{statement}
 use Rattle.attributes.proofs.bodies_right.Tie as tie

@@ -5,7 +5,8 @@ use borrow.Author.Needs.{needs}
 use denote.Ref.{now}
 use lib.ListN.{getD}
 use Rattle.attributes.specs.Wire.{lengthWidth}
-use Rattle.attributes.proofs.Sizes.{number-one, header-at}
+use Rattle.octets.proofs.Numbers.{number-one}
+use Rattle.attributes.proofs.Sizes.{header-at}
 use Rattle.attributes.proofs.header_size.Statement.{statement}
 use Rattle.attributes.proofs.header_size.Tie as tie
 

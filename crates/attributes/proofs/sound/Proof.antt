@@ -11,7 +11,8 @@ use Rattle.octets.specs.Choice.{pick}
 use Rattle.octets.specs.Rows.{whole}
 use Rattle.attributes.specs.Wire.{attributeSize, rawsOf, codes}
 use Rattle.attributes.specs.Codes.{distinct}
-use Rattle.attributes.proofs.Sizes.{number-one, step}
+use Rattle.octets.proofs.Numbers.{number-one}
+use Rattle.attributes.proofs.Sizes.{step}
 use Rattle.attributes.proofs.Marks.{marks, bit-clear, none-marked, marking-adds}
 use Rattle.attributes.proofs.Walks.{soundWith, sound-start, sound-end, sound-bad, sound-marked, sound-next}
 use Rattle.attributes.proofs.sound.Statement.{statement}

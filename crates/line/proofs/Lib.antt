@@ -1,0 +1,10 @@
+pub mod Bound
+pub mod Chosen
+pub mod Costs
+pub mod Fields
+pub mod Lines
+pub mod Measured
+pub mod Numbers
+pub mod PathCosts
+pub mod Room
+pub mod Texts

@@ -1,0 +1,55 @@
+-- `line::put_attributes` meets its contract: one writer after another. Assumes nothing.
+use mathlib.Core.List.{[], _∷_, _++_}
+use denote.Ref.{now}
+use Rattle.octets.proofs.Writes.{both}
+use Rattle.aspath.specs.Wire.{bytes}
+use Rattle.attributes.specs.Bodies.{attributesOf}
+use Rattle.line.specs.Line.{pathField, nextHopField, originField, atomicField}
+use Rattle.line.specs.Text.{following}
+use borrow.Author.Needs.{needs}
+use Rattle.line.proofs.put_attributes.Statement.{statement}
+use Rattle.line.proofs.put_attributes.Tie as tie
+
+put-path-field-requires : tie.Need-put-path-field-requires
+put-path-field-requires c κs = search needs
+
+put-next-hop-field-requires : tie.Need-put-next-hop-field-requires
+put-next-hop-field-requires c κs = search needs
+
+put-origin-field-requires : tie.Need-put-origin-field-requires
+put-origin-field-requires c κs = search needs
+
+put-atomic-field-requires : tie.Need-put-atomic-field-requires
+put-atomic-field-requires c κs = search needs
+
+put-requires : tie.Need-put-requires
+put-requires c κs = search needs
+
+put-requires-2 : tie.Need-put-requires-2
+put-requires-2 c κs = search needs
+
+same-length : tie.Need-same-length
+same-length c = search needs
+
+returns : tie.Need-returns
+unfolding following
+returns c = let a = c .before .before .before .before .before .before .before .before .before .before .before .before .before .before .before .before .before .before .before .before .before .before .before .before .before .before .args in
+    let attributes = attributesOf (bytes (a .width)) (now (a .s)) in
+    both ((124 ∷ []) ++ pathField attributes) _ (c .before .before .before .before .before .before .before .before .before .before .before .before .before .before .before .before .before .before .before .before .before .before .put-path-field .ensures)
+    (both ((124 ∷ []) ++ nextHopField attributes) _ (c .before .before .before .before .before .before .before .before .before .before .before .before .before .before .before .before .before .before .put-next-hop-field .ensures)
+    (both ((124 ∷ []) ++ originField attributes) _ (c .before .before .before .before .before .before .before .before .before .before .before .before .before .before .put-origin-field .ensures)
+    (both ((124 ∷ []) ++ atomicField attributes) _ (c .before .before .before .before .before .before .before .before .before .before .put-atomic-field .ensures)
+    (both (124 ∷ []) (124 ∷ []) (c .before .before .before .before .before .before .put .ensures) (c .before .before .put2 .ensures)))))
+
+pub put-attributes-spec : {M : Type 1} → statement M
+put-attributes-spec =
+    tie.close
+    (tie.spec
+    put-path-field-requires
+    put-next-hop-field-requires
+    put-origin-field-requires
+    put-atomic-field-requires
+    put-requires
+    put-requires-2
+    same-length
+    returns)

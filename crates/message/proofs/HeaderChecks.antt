@@ -1,0 +1,80 @@
+-- Each check of a record's header, peer part and frame decides the condition of its row. Assumes nothing.
+use Prim.Native.Nat.{ℕ, zero, suc}
+use native.Mathlib.Omega.{arith}
+use mathlib.Core.Path.{_≡_, refl}
+use mathlib.Core.Bool.{true}
+use mathlib.Core.List.{List, [], _∷_}
+use lib.ListN.{take, replicate}
+use lib.Dec.{eqb}
+use borrow.Author.Tests.{ltb-true, eqb-true, eqb-false, not-true, lt-ltb, eq-eqb, ne-eqb}
+use Rattle.octets.proofs.Choices.{never, either, each}
+use Rattle.message.specs.Fields.{widthOf}
+use Rattle.message.specs.Refusals.{WrongSize, WrongKind, WrongPeer, WrongFrame}
+use Rattle.message.specs.Decode.{wrongSize, wrongKind, wrongPeer, ones, wrongFrame}
+use Rattle.message.proofs.Ones.{ones-sound, ones-complete}
+use Rattle.message.proofs.Deciding.{Decides, decides-false, decides-not, settled, unless, without}
+
+-- row 11
+pub size-decides : (s : List ℕ) → Decides (wrongSize s) (WrongSize s)
+unfolding wrongSize
+size-decides s = record { sound = sound; complete = complete }
+  where
+    sound : wrongSize s ≡ true → WrongSize s
+    sound e =
+        either _ _ e
+        (λ h. WrongSize.short (ltb-true _ _ h))
+        (λ f. either _ _ f (λ h. WrongSize.long (ltb-true _ _ h)) (λ h. WrongSize.uneven (eqb-false _ _ (not-true _ h))))
+
+    complete : WrongSize s → wrongSize s ≡ true
+    complete (WrongSize.short h) = simp (lt-ltb _ _ h)
+    complete (WrongSize.long h) = simp (lt-ltb _ _ h, settled)
+    complete (WrongSize.uneven n) = simp (ne-eqb _ _ n, settled)
+
+-- row 12
+pub kind-decides : (s : List ℕ) → Decides (wrongKind s) (WrongKind s)
+unfolding wrongKind
+kind-decides s = record { sound = sound; complete = complete }
+  where
+    sound : wrongKind s ≡ true → WrongKind s
+    sound e =
+        unless _ _ e
+        (λ h. WrongKind.other-type (eqb-false _ _ h))
+        (λ f. let b = without _ _ f in WrongKind.other-subtype (eqb-false _ _ (b .0)) (eqb-false _ _ (not-true _ (b .1))))
+
+    complete : WrongKind s → wrongKind s ≡ true
+    complete (WrongKind.other-type n) = simp (ne-eqb _ _ n)
+    complete (WrongKind.other-subtype n m) = simp (ne-eqb _ _ n, ne-eqb _ _ m, settled)
+
+-- row 13
+pub peer-decides : (s : List ℕ) → Decides (wrongPeer (widthOf s) s) (WrongPeer s)
+unfolding wrongPeer
+peer-decides s = record { sound = sound; complete = complete }
+  where
+    sound : wrongPeer (widthOf s) s ≡ true → WrongPeer s
+    sound e = either _ _ e (λ h. WrongPeer.cut (ltb-true _ _ h)) (λ h. WrongPeer.other-family (eqb-false _ _ (not-true _ h)))
+
+    complete : WrongPeer s → wrongPeer (widthOf s) s ≡ true
+    complete (WrongPeer.cut h) = simp (lt-ltb _ _ h)
+    complete (WrongPeer.other-family n) = simp (ne-eqb _ _ n, settled)
+
+-- the marker
+pub ones-decides : (n : ℕ) (m : List ℕ) → Decides (ones n m) (take n m ≡ replicate n 255)
+ones-decides n m = record { sound = ones-sound n m; complete = ones-complete n m }
+
+-- row 14
+pub frame-decides : (m : List ℕ) → Decides (wrongFrame m) (WrongFrame m)
+unfolding wrongFrame
+frame-decides m = record { sound = sound; complete = complete }
+  where
+    sound : wrongFrame m ≡ true → WrongFrame m
+    sound e =
+        either _ _ e
+        (λ h. WrongFrame.short (ltb-true _ _ h))
+        (λ f. either _ _ f (λ h. WrongFrame.long (ltb-true _ _ h))
+        (λ g. unless _ _ g (λ h. WrongFrame.unmarked (decides-false (ones-decides 16 m) h)) (λ h. WrongFrame.uneven (eqb-false _ _ (not-true _ h)))))
+
+    complete : WrongFrame m → wrongFrame m ≡ true
+    complete (WrongFrame.short h) = simp (lt-ltb _ _ h)
+    complete (WrongFrame.long h) = simp (lt-ltb _ _ h, settled)
+    complete (WrongFrame.unmarked n) = simp (decides-not (ones-decides 16 m) n, settled)
+    complete (WrongFrame.uneven n) = simp (ne-eqb _ _ n, settled)

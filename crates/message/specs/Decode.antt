@@ -1,0 +1,146 @@
+-- What decoding a record answers, and what the answer's places and numbers stand for.
+use Prim.Native.Nat.{ℕ, zero, suc, _+_, _-_}
+use mathlib.Core.Bool.{Bool, true, false, not}
+use mathlib.Core.List.{List}
+use lib.ListN.{length, getD, take, drop, replicate}
+use lib.Dec.{leb, ltb, eqb}
+use Rattle.octets.specs.Choice.{pick}
+use Rattle.octets.specs.Numbers.{numberAt}
+use Rattle.octets.specs.Rows.{whole, items}
+use Rattle.network.specs.declared.Network.{Network}
+use Rattle.network.specs.Wire.{prefixSize, networkOf}
+use Rattle.aspath.specs.declared.Width.{Width}
+use Rattle.aspath.specs.Wire.{bytes}
+use Rattle.attributes.specs.Wire.{attributeSize, rawsOf, codes}
+use Rattle.attributes.specs.Codes.{distinct}
+use Rattle.attributes.specs.Bodies.{allRight, attributesOf}
+use Rattle.message.specs.declared.Part.{Part}
+use Rattle.message.specs.declared.Parts.{Parts}
+use Rattle.message.specs.declared.Refusal.{Refusal}
+use Rattle.message.specs.declared.Refusal.the-variants.{Size, Kind, Peer, Frame, Sections, Attributes, Body, Prefix}
+use Rattle.message.specs.declared.Decoded.{Decoded}
+use Rattle.message.specs.declared.Decoded.the-variants.{Read, Refused}
+use Rattle.message.specs.Message.{Message, update}
+use Rattle.message.specs.Represents.{addressBits, messageLimit, bgp4mp}
+use Rattle.message.specs.Fields.{headerSize, secondsField, typeField, subtypeField, lengthField, widthOf, frameStart, peerAsField, familyField, peerAddressField, frame, frameLength, kindField, bodyStart, body, withdrawnSize, attributesSize, withdrawnIn, attributesIn, announcedIn}
+use Rattle.message.specs.Refusals.{recordLimit}
+
+-- ---- what the answer stands for
+
+-- the bytes of a part, as many as the record has
+abbrev pub partOf : List ℕ → Part → List ℕ
+partOf s p = take (p .len) (drop (p .start) s)
+
+-- the networks of a section of prefixes
+abbrev pub networksOf : List ℕ → List Network
+networksOf l = items (prefixSize addressBits) (networkOf addressBits) l
+
+-- the message that parts stand for in a record, whatever they are
+unfoldable pub messageAt : List ℕ → Parts → Message
+messageAt s p = record {
+  seconds = p .seconds;
+  width = p .width;
+  peerAs = p .peer;
+  peerAddress = p .address;
+  kind = p .kind;
+  withdrawn = networksOf (partOf s (p .withdrawn));
+  attributes = attributesOf (bytes (p .width)) (partOf s (p .attributes));
+  announced = networksOf (partOf s (p .announced));
+}
+
+-- ---- what the code computes
+
+unfoldable pub wrongSize : List ℕ → Bool
+wrongSize s =
+    pick (ltb (length s) headerSize) true
+    (pick (ltb recordLimit (length s)) true
+    (not (eqb (headerSize + lengthField s) (length s))))
+
+unfoldable pub wrongKind : List ℕ → Bool
+wrongKind s =
+    pick (eqb (typeField s) bgp4mp)
+    (pick (eqb (subtypeField s) 1) false (not (eqb (subtypeField s) 4)))
+    true
+
+unfoldable pub wrongPeer : Width → List ℕ → Bool
+wrongPeer w s = pick (ltb (length s) (frameStart w)) true (not (eqb (familyField w s) 1))
+
+-- the first n bytes are each 0xFF
+unfoldable pub ones : ℕ → List ℕ → Bool
+ones zero m = true
+ones (suc n) m = pick (eqb (getD m 0 0) 255) (ones n (drop 1 m)) false
+
+unfoldable pub wrongFrame : List ℕ → Bool
+wrongFrame m =
+    pick (ltb (length m) 19) true
+    (pick (ltb messageLimit (length m)) true
+    (pick (ones 16 m) (not (eqb (frameLength m) (length m))) true))
+
+unfoldable pub wrongSections : List ℕ → Bool
+wrongSections b =
+    pick (ltb (length b) (4 + withdrawnSize b)) true
+    (ltb (length b) (4 + withdrawnSize b + attributesSize b))
+
+unfoldable pub wrongAttributes : List ℕ → Bool
+wrongAttributes l = not (pick (whole attributeSize l) (distinct (codes (rawsOf l))) false)
+
+unfoldable pub wrongBody : Width → List ℕ → Bool
+wrongBody w l = not (allRight (bytes w) (rawsOf l))
+
+unfoldable pub wrongPrefix : List ℕ → List ℕ → Bool
+wrongPrefix withdrawn announced =
+    pick (whole (prefixSize addressBits) withdrawn) (not (whole (prefixSize addressBits) announced)) true
+
+-- the parts of a record whose message is no UPDATE, and of one whose message is
+unfoldable pub otherParts : Width → List ℕ → Parts
+otherParts w s = record {
+  seconds = secondsField s;
+  width = w;
+  peer = peerAsField w s;
+  address = peerAddressField w s;
+  kind = kindField (frame w s);
+  withdrawn = record { start = 0; len = 0 };
+  attributes = record { start = 0; len = 0 };
+  announced = record { start = 0; len = 0 };
+}
+
+unfoldable pub updateParts : Width → List ℕ → Parts
+updateParts w s =
+    let b = body w s in
+    record {
+      seconds = secondsField s;
+      width = w;
+      peer = peerAsField w s;
+      address = peerAddressField w s;
+      kind = update;
+      withdrawn = record { start = bodyStart w + 2; len = withdrawnSize b };
+      attributes = record { start = bodyStart w + 4 + withdrawnSize b; len = attributesSize b };
+      announced = record {
+        start = bodyStart w + 4 + withdrawnSize b + attributesSize b;
+        len = length b - (4 + withdrawnSize b + attributesSize b);
+      };
+    }
+
+-- the checks of an UPDATE's body, down the table
+unfoldable pub updateOf : Width → List ℕ → Decoded
+updateOf w s =
+    let b = body w s in
+    pick (wrongSections b) (Refused Sections)
+    (pick (wrongAttributes (attributesIn b)) (Refused Attributes)
+    (pick (wrongBody w (attributesIn b)) (Refused Body)
+    (pick (wrongPrefix (withdrawnIn b) (announcedIn b)) (Refused Prefix)
+    (Read (updateParts w s)))))
+
+-- the checks after the header, down the table
+unfoldable pub messageOf : Width → List ℕ → Decoded
+messageOf w s =
+    pick (wrongPeer w s) (Refused Peer)
+    (pick (wrongFrame (frame w s)) (Refused Frame)
+    (pick (eqb (kindField (frame w s)) update) (updateOf w s)
+    (Read (otherParts w s))))
+
+unfoldable pub decodeOf : List ℕ → Decoded
+decodeOf s =
+    pick (wrongSize s) (Refused Size)
+    (pick (wrongKind s) (Refused Kind)
+    (messageOf (widthOf s) s))

@@ -1,0 +1,5 @@
+pub mod Message
+pub mod Represents
+pub mod Fields
+pub mod Refusals
+pub mod Decode
