@@ -15,31 +15,8 @@ use Rattle.octets.proofs.Bytes.{octets-take, octets-drop, octets-append}
 use Rattle.octets.proofs.Numbers.{number-front, number-after, number-take}
 use Rattle.octets.proofs.Rows.{Reads}
 use Rattle.attributes.specs.Wire.{Raw, RawBytes, lengthWidth, headerSize, bodySize, attributeSize, rawOf}
+use Rattle.attributes.proofs.Sizes.{fits-stands, size-stands, attribute-sizes}
 use Rattle.octets.proofs.Encode.{bytesOf, bytes-field, bytes-length, octets-one}
-
--- ---- the attribute at the front
-
-raw-fits : (l : List ℕ) → attributeSize l ≤ length l
-unfolding attributeSize
-raw-fits l = go (decLe (headerSize l + bodySize l) (length l))
-  where
-    go : Dec (headerSize l + bodySize l ≤ length l) → attributeSize l ≤ length l
-    go (yes h) = simp (le-leb _ _ h) h
-    go (no h) = simp (lt-leb _ _ (lt-of-not-le h)) (omega arith)
-
--- where a whole attribute stands, its header and its body fit
-stands : (l : List ℕ) → (attributeSize l ≡ 0 → ⊥) → headerSize l + bodySize l ≤ length l
-unfolding attributeSize
-stands l n = go (decLe (headerSize l + bodySize l) (length l))
-  where
-    go : Dec (headerSize l + bodySize l ≤ length l) → headerSize l + bodySize l ≤ length l
-    go (yes h) = h
-    go (no h) = absurd (n (simp (lt-leb _ _ (lt-of-not-le h))))
-
--- where they fit, a whole attribute stands
-standing-size : (l : List ℕ) → headerSize l + bodySize l ≤ length l → attributeSize l ≡ headerSize l + bodySize l
-unfolding attributeSize
-standing-size l h = simp (le-leb _ _ h)
 
 -- ---- reading an attribute's bytes
 
@@ -65,7 +42,7 @@ module _ {r : Raw} {bytes : List ℕ} (x : RawBytes r bytes) (rest : List ℕ) w
   raw-stands = simp (raw-header, raw-body, length-append) (omega (arith, raw-length))
 
   raw-exact : attributeSize (bytes ++ rest) ≡ length bytes
-  raw-exact = standing-size (bytes ++ rest) raw-stands ∙ omega (arith, raw-header, raw-body, raw-length)
+  raw-exact = fits-stands (bytes ++ rest) raw-stands .parts ∙ omega (arith, raw-header, raw-body, raw-length)
 
   body-after : take (length (r .body)) (drop (2 + length (x .size)) (x .flags ∷ r .code ∷ (x .size ++ r .body ++ rest))) ≡ r .body
   body-after =
@@ -104,11 +81,11 @@ raw-sound (f ∷ c ∷ l) o h =
 -- a raw attribute is read back
 pub raw-reads : Reads RawBytes attributeSize rawOf
 raw-reads = record {
-  fits = raw-fits;
+  fits = attribute-sizes .fits;
   some = λ x. omega (arith, raw-length x []);
   exact = λ x rest. raw-exact x rest;
   same = λ x rest. raw-same x rest;
-  sound = λ l o n. let h = stands l n in rw (standing-size l h) (raw-sound l o h);
+  sound = λ l o n. let s = size-stands l n in rw (s .parts) (raw-sound l o (rw (s .parts) at (s .fits)));
 }
 
 -- the bytes of a raw attribute are bytes

@@ -7,6 +7,7 @@ use mathlib.Core.List.{List, [], _∷_}
 use lib.ListN.{length, getD, take, drop}
 use Rattle.octets.specs.Choice.{pick}
 use Rattle.octets.specs.Rows.{whole}
+use Rattle.octets.proofs.Choices.{alike}
 use Rattle.octets.proofs.Rows.{whole-end, whole-bad, whole-next, items-end, items-next}
 use Rattle.attributes.specs.Wire.{headerSize, bodySize, attributeSize, rawOf, rawsOf, codes}
 use Rattle.attributes.specs.Codes.{distinct}
@@ -52,11 +53,7 @@ module _ (l : List ℕ) where
     pub sound-marked : (marked : ℕ → Bool) → marked c ≡ true → soundWith marked l ≡ false
     unfolding soundWith
     sound-marked marked e =
-        rw (codes-next n code, fresh-marked marked c (codes (rawsOf (drop (attributeSize l) l))) e) (go (whole attributeSize l))
-      where
-        go : (w : Bool) → pick w false false ≡ false
-        go true = refl
-        go false = refl
+        alike (whole attributeSize l) (ap (fresh marked) (codes-next n code) ∙ fresh-marked marked c (codes (rawsOf (drop (attributeSize l) l))) e) refl
 
     -- it starts with one whose code isn't, and is marked then
     pub sound-next : {before after : ℕ → Bool} → Adds c before after → before c ≡ false → soundWith before l ≡ soundWith after (drop (attributeSize l) l)

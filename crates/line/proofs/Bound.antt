@@ -34,7 +34,7 @@ use Rattle.message.specs.Decode.{partOf, networksOf, messageAt}
 use Rattle.line.specs.Text.{following, prefixesText, pathText, optional}
 use Rattle.line.specs.Line.{originText, atomicText, widthText, attributeFields, closingFields, lineOf, linesOf}
 use Rattle.line.specs.Answer.{lineRoom, isAmple}
-use Rattle.line.proofs.Chosen.{second-chosen}
+use Rattle.octets.proofs.Choices.{second-chosen}
 use Rattle.line.proofs.Costs.{prefixes-short}
 use Rattle.line.proofs.PathCosts.{path-short}
 
@@ -131,9 +131,8 @@ module _ (s : List ℕ) (p : Parts) (h : p .address < 2 ^ 32) where
       ))
 
 -- the room that a test of the sizes finds ample suffices
-pub lines-fit : {s : List ℕ} → Octets s → (p : Parts) → p .seconds < 2 ^ 32 → p .peer < 2 ^ 32 → p .address < 2 ^ 32
-    → (room : ℕ) → isAmple p room ≡ true → length (linesOf (messageAt s p)) ≤ room
-lines-fit {s} o p hs hp ha room e =
+pub lines-fit : {s : List ℕ} → Octets s → (p : Parts) → p .address < 2 ^ 32 → (room : ℕ) → isAmple p room ≡ true → length (linesOf (messageAt s p)) ≤ room
+lines-fit {s} o p ha room e =
     let a = second-chosen (ltb room lineRoom) never e in
     let b = second-chosen (ltb messageLimit (p .withdrawn .len)) never (a .1) in
     let c = second-chosen (ltb messageLimit (p .attributes .len)) never (b .1) in

@@ -1,5 +1,4 @@
 pub mod Bound
-pub mod Chosen
 pub mod Costs
 pub mod Fields
 pub mod Lines

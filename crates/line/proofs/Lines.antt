@@ -1,15 +1,21 @@
--- Laws of a line: it has text just where there are prefixes. Assumes nothing.
+-- Laws of a line, which has text just where there are prefixes, and of both lines. Assumes nothing.
 use Prim.Native.Nat.{ℕ}
 use mathlib.Core.Path.{_≡_, refl}
 use mathlib.Core.List.{List, [], _∷_, _++_, append-nil}
+use Rattle.octets.specs.Rows.{itemsIn}
+use Rattle.octets.specs.Writes.{Written}
 use Rattle.octets.proofs.Rows.{items-next, items-end}
+use Rattle.octets.proofs.Writes.{both}
 use Rattle.network.specs.declared.Network.{Network}
 use Rattle.network.specs.Wire.{prefixSize, networkOf}
 use Rattle.network.proofs.Prefixes.{prefix-sizes}
+use Rattle.aspath.specs.Wire.{bytes}
 use Rattle.attributes.specs.Attribute.{Attribute}
-use Rattle.message.specs.Decode.{networksOf}
+use Rattle.attributes.specs.Bodies.{attributesOf}
+use Rattle.message.specs.declared.Parts.{Parts}
+use Rattle.message.specs.Decode.{partOf, networksOf, messageAt}
 use Rattle.line.specs.Text.{following, prefixesText}
-use Rattle.line.specs.Line.{attributeFields, lineOf}
+use Rattle.line.specs.Line.{attributeFields, closingFields, lineOf, linesOf}
 
 module _ (type : ℕ) (attributes : List Attribute) (closing : List (List ℕ)) where
   abbrev lineText : List Network → List ℕ
@@ -29,3 +35,16 @@ module _ (type : ℕ) (attributes : List Attribute) (closing : List (List ℕ)) 
   -- where one stands there is
   pub line-some : (prefixes : List ℕ) → (prefixSize 32 prefixes ≡ 0 → ⊥) → lineOf type (networksOf prefixes) attributes closing ≡ lineText (networksOf prefixes)
   line-some prefixes n = rw (items-next (prefixSize 32) (networkOf 32) (prefix-sizes 32) prefixes n) (line-cons _ _)
+
+-- the fields that end the lines of a message's parts
+abbrev closingOf : Parts → List (List ℕ)
+closingOf p = closingFields (p .address) (p .peer) (p .seconds) (p .width)
+
+-- the line of what is announced and that of what is withdrawn, with no attributes, one after the other
+pub lines-written : {old mid new : List ℕ} {at q r : ℕ} (s : List ℕ) (p : Parts) {announced attributes withdrawn none : List ℕ}
+    → announced ≡ partOf s (p .announced) → attributes ≡ partOf s (p .attributes) → withdrawn ≡ partOf s (p .withdrawn) → none ≡ []
+    → Written old at (lineOf 43 (networksOf announced) (attributesOf (bytes (p .width)) attributes) (closingOf p)) mid q
+    → Written mid q (lineOf 45 (networksOf withdrawn) (attributesOf (bytes (p .width)) none) (closingOf p)) new r
+    → Written old at (linesOf (messageAt s p)) new r
+unfolding linesOf messageAt itemsIn
+lines-written s p e f g h v w = both _ _ (rw (e, f) at v) (rw (g, h) at w)

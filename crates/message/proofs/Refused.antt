@@ -104,7 +104,7 @@ refusals = map (λ (row : Row). row .refusal) rows
 
 -- the number of a refusal is 11 and its row's place
 pub number-place : (r : Refusal) → getD refusals (number r - 11) Size ≡ r
-unfolding number rows
+unfolding rows
 number-place Size = refl
 number-place Kind = refl
 number-place Peer = refl

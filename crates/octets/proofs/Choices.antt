@@ -43,3 +43,8 @@ pick-either false u = (λ e. inr e, go)
     go : (false ≡ true) ⊎ (u ≡ true) → u ≡ true
     go (inl e) = never e
     go (inr e) = e
+
+-- a choice that doesn't come to its first answer comes to its second
+pub second-chosen : {A : Type 0} {x y z : A} (b : Bool) → (x ≡ z → ⊥) → pick b x y ≡ z → (b ≡ false) × (y ≡ z)
+second-chosen true n e = absurd (n e)
+second-chosen false n e = (refl, e)

@@ -1,5 +1,4 @@
--- `attributes::bodies_right` meets its contract. The loop's invariant: every body of the section is right just where those of the
--- rest of it are. Assumes nothing.
+-- `attributes::bodies_right` meets its contract. The loop's invariant: every body is right just where every one of the rest is. Assumes nothing.
 use Prim.Native.Nat.{_+_, _-_, _≤_}
 use native.Mathlib.Omega.{arith}
 use mathlib.Core.Path.{_≡_, refl, sym, _∙_}
@@ -8,10 +7,10 @@ use borrow.Author.Needs.{needs}
 use borrow.Author.Tests.{not-true, not-false}
 use denote.Ref.{now}
 use Rattle.aspath.specs.Wire.{bytes}
-use Rattle.attributes.specs.Wire.{attributeSize, rawsOf}
-use Rattle.attributes.specs.Bodies.{allRight}
 use Rattle.octets.proofs.Numbers.{number-one}
-use Rattle.attributes.proofs.Sizes.{attribute-sizes, step, body-part}
+use Rattle.attributes.specs.Wire.{rawsOf}
+use Rattle.attributes.specs.Bodies.{allRight}
+use Rattle.attributes.proofs.Sizes.{attribute-sizes, Step, step, body-part}
 use Rattle.attributes.proofs.Walks.{right-end, right-wrong, right-next}
 use Rattle.attributes.proofs.bodies_right.Statement.{statement}
 use Rattle.attributes.proofs.bodies_right.Tie as tie
@@ -22,6 +21,15 @@ Inv-loop s width at₀ at =
 
 abbrev μ-loop : tie.MeasureT-loop
 μ-loop s width at₀ at = length s - at
+
+-- the attribute at the loop's place
+stands : (c : tie.Else1 Inv-loop μ-loop) → Step (now (c .before .before .before .before .before .args .s)) (c .before .before .before .loop .at) (c .before .attribute-size .result)
+stands c = step _ _ _ (c .before .attribute-size .ensures) (c .if1 .left)
+
+-- its code
+code-is : (c : tie.After-number Inv-loop μ-loop)
+    → getD (drop (c .before .before .before .before .loop .at) (now (c .before .before .before .before .before .before .args .s))) 1 0 ≡ c .number .result
+code-is c = stands (c .before) .code ∙ sym (c .number .ensures ∙ number-one _ (c .before .before .before .before .loop .at + 1))
 
 loop-holds : tie.Need-loop-holds Inv-loop μ-loop
 loop-holds c = (omega arith, refl)
@@ -46,37 +54,27 @@ header-size-requires c κs = search needs
 
 add-start : tie.Need-add-start Inv-loop μ-loop
 add-start c =
-    let s = now (c .before .before .before .before .before .before .before .args .s) in
-    let l = c .before .before .before .before .before .loop in
-    let x = step s (l .at) _ (c .before .before .before .attribute-size .ensures) (c .before .before .if1 .left) in
+    let x = stands (c .before .before) in
     omega arith
 
 add-end : tie.Need-add-end Inv-loop μ-loop
 add-end c =
-    let s = now (c .before .before .before .before .before .before .before .args .s) in
-    let l = c .before .before .before .before .before .loop in
-    let x = step s (l .at) _ (c .before .before .before .attribute-size .ensures) (c .before .before .if1 .left) in
+    let x = stands (c .before .before) in
     omega arith
 
 sub-body-right : tie.Need-sub-body-right Inv-loop μ-loop
 sub-body-right c =
-    let s = now (c .before .before .before .before .before .before .before .args .s) in
-    let l = c .before .before .before .before .before .loop in
-    let x = step s (l .at) _ (c .before .before .before .attribute-size .ensures) (c .before .before .if1 .left) in
+    let x = stands (c .before .before) in
     omega arith
 
 part-body-right-start : tie.Need-part-body-right-start Inv-loop μ-loop
 part-body-right-start c =
-    let s = now (c .before .before .before .before .before .before .before .args .s) in
-    let l = c .before .before .before .before .before .loop in
-    let x = step s (l .at) _ (c .before .before .before .attribute-size .ensures) (c .before .before .if1 .left) in
+    let x = stands (c .before .before) in
     omega arith
 
 part-body-right-end : tie.Need-part-body-right-end Inv-loop μ-loop
 part-body-right-end c =
-    let s = now (c .before .before .before .before .before .before .before .args .s) in
-    let l = c .before .before .before .before .before .loop in
-    let x = step s (l .at) _ (c .before .before .before .attribute-size .ensures) (c .before .before .if1 .left) in
+    let x = stands (c .before .before) in
     omega arith
 
 body-right-requires : tie.Need-body-right-requires Inv-loop μ-loop
@@ -84,37 +82,27 @@ body-right-requires c κs = search needs
 
 returns-2 : tie.Need-returns-2 Inv-loop μ-loop
 returns-2 c =
-    let s = now (c .before .before .before .before .before .before .before .before .before .before .args .s) in
-    let l = c .before .before .before .before .before .before .before .before .loop in
-    let x = step s (l .at) _ (c .before .before .before .before .before .before .attribute-size .ensures) (c .before .before .before .before .before .if1 .left) in
-    let n = c .before .before .before .before .number in
-    let e : getD (drop (l .at) s) 1 0 ≡ n .result = x .code ∙ sym (n .ensures ∙ number-one s (l .at + 1)) in
+    let x = stands (c .before .before .before .before .before) in
     let p = body-part x _ (c .before .before .before .header-size .ensures .0) in
-    sym (right-wrong (drop (l .at) s) (x .some) e _ p (sym (c .before .body-right .ensures) ∙ not-true _ (c .if2 .taken))) ∙ l .inv .1
+    sym (right-wrong _ (x .some) (code-is (c .before .before .before .before)) _ p (sym (c .before .body-right .ensures) ∙ not-true _ (c .if2 .taken))) ∙ c .before .before .before .before .before .before .before .before .loop .inv .1
 
 loop-less : tie.Need-loop-less Inv-loop μ-loop
 loop-less c =
-    let s = now (c .before .before .before .before .before .before .before .before .before .before .args .s) in
-    let l = c .before .before .before .before .before .before .before .before .loop in
-    let x = step s (l .at) _ (c .before .before .before .before .before .before .attribute-size .ensures) (c .before .before .before .before .before .if1 .left) in
+    let x = stands (c .before .before .before .before .before) in
     omega arith
 
 loop-again : tie.Need-loop-again Inv-loop μ-loop
 loop-again c =
-    let s = now (c .before .before .before .before .before .before .before .before .before .before .args .s) in
-    let l = c .before .before .before .before .before .before .before .before .loop in
-    let x = step s (l .at) _ (c .before .before .before .before .before .before .attribute-size .ensures) (c .before .before .before .before .before .if1 .left) in
-    let n = c .before .before .before .before .number in
-    let e : getD (drop (l .at) s) 1 0 ≡ n .result = x .code ∙ sym (n .ensures ∙ number-one s (l .at + 1)) in
+    let x = stands (c .before .before .before .before .before) in
     let p = body-part x _ (c .before .before .before .header-size .ensures .0) in
-    (x .fits, rw (← x .next) (sym (right-next (drop (l .at) s) (x .some) e _ p (sym (c .before .body-right .ensures) ∙ not-false _ (c .if2 .left))) ∙ l .inv .1))
+    (x .fits, rw (← x .next) (sym (right-next _ (x .some) (code-is (c .before .before .before .before)) _ p (sym (c .before .body-right .ensures) ∙ not-false _ (c .if2 .left))) ∙ c .before .before .before .before .before .before .before .before .loop .inv .1))
 
 returns-3 : tie.Need-returns-3 Inv-loop μ-loop
 returns-3 c =
     let a = c .before .before .before .args in
     let l = c .before .loop in
-    let z : attributeSize (drop (l .at) (now (a .s))) ≡ 0 = omega (arith, attribute-sizes .fits (drop (l .at) (now (a .s))), length-drop (l .at) (now (a .s))) in
-    sym (right-end (drop (l .at) (now (a .s))) (bytes (a .width)) z) ∙ l .inv .1
+    let r = drop (l .at) (now (a .s)) in
+    sym (right-end r (bytes (a .width)) (omega (arith, attribute-sizes .fits r, length-drop (l .at) (now (a .s))))) ∙ l .inv .1
 
 pub bodies-right-spec : {M : Type 1} → statement M
 bodies-right-spec =

@@ -7,8 +7,8 @@ use borrow.Author.Tests.{le-leb}
 use denote.Ref.{now}
 use lib.ListN.{getD, drop}
 use Rattle.octets.proofs.Bytes.{octets-drop}
-use Rattle.attributes.specs.Wire.{lengthWidth, bodySize}
 use Rattle.octets.proofs.Numbers.{number-one}
+use Rattle.attributes.specs.Wire.{lengthWidth, bodySize}
 use Rattle.attributes.proofs.Sizes.{body-at, body-lt}
 use Rattle.attributes.proofs.body_size.Statement.{statement}
 use Rattle.attributes.proofs.body_size.Tie as tie

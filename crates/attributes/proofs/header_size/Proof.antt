@@ -4,8 +4,8 @@ use mathlib.Core.Path.{_≡_, ap, _∙_}
 use borrow.Author.Needs.{needs}
 use denote.Ref.{now}
 use lib.ListN.{getD}
-use Rattle.attributes.specs.Wire.{lengthWidth}
 use Rattle.octets.proofs.Numbers.{number-one}
+use Rattle.attributes.specs.Wire.{lengthWidth}
 use Rattle.attributes.proofs.Sizes.{header-at}
 use Rattle.attributes.proofs.header_size.Statement.{statement}
 use Rattle.attributes.proofs.header_size.Tie as tie

@@ -1,5 +1,4 @@
--- `attributes::sound` meets its contract. The loop's invariant: the section is sound just where the rest of it is with the codes
--- that the words mark. Assumes nothing.
+-- `attributes::sound` meets its contract. The loop's invariant: the section is sound just where the rest of it is, with the codes marked so far. Assumes nothing.
 use Prim.Native.Nat.{_+_, _-_, _/_, _%_, _^_, _≤_}
 use native.Mathlib.Omega.{arith}
 use mathlib.Core.Path.{_≡_, refl, sym, _∙_}
@@ -9,10 +8,10 @@ use borrow.Author.Needs.{needs}
 use denote.Ref.{now}
 use Rattle.octets.specs.Choice.{pick}
 use Rattle.octets.specs.Rows.{whole}
+use Rattle.octets.proofs.Numbers.{number-one}
 use Rattle.attributes.specs.Wire.{attributeSize, rawsOf, codes}
 use Rattle.attributes.specs.Codes.{distinct}
-use Rattle.octets.proofs.Numbers.{number-one}
-use Rattle.attributes.proofs.Sizes.{step}
+use Rattle.attributes.proofs.Sizes.{Step, step}
 use Rattle.attributes.proofs.Marks.{marks, bit-clear, none-marked, marking-adds}
 use Rattle.attributes.proofs.Walks.{soundWith, sound-start, sound-end, sound-bad, sound-marked, sound-next}
 use Rattle.attributes.proofs.sound.Statement.{statement}
@@ -24,6 +23,15 @@ Inv-loop s seen₀ at₀ seen at =
 
 abbrev μ-loop : tie.MeasureT-loop
 μ-loop s seen₀ at₀ seen at = length s - at
+
+-- the attribute at the loop's place
+stands : (c : tie.Else1 Inv-loop μ-loop) → Step (now (c .before .before .before .before .before .args .s)) (c .before .before .before .loop .at) (c .before .attribute-size .result)
+stands c = step _ _ _ (c .before .attribute-size .ensures) (c .if1 .left)
+
+-- its code
+code-is : (c : tie.After-number Inv-loop μ-loop)
+    → getD (drop (c .before .before .before .before .loop .at) (now (c .before .before .before .before .before .before .args .s))) 1 0 ≡ c .number .result
+code-is c = stands (c .before) .code ∙ sym (c .number .ensures ∙ number-one _ (c .before .before .before .before .loop .at + 1))
 
 loop-holds : tie.Need-loop-holds Inv-loop μ-loop
 loop-holds c = (omega arith, refl, sound-start (now (c .before .args .s)) (marks (replicate 4 0)) (none-marked 4))
@@ -51,27 +59,23 @@ mul-marks c = search needs
 
 array-read-marks : tie.Need-array-read-marks Inv-loop μ-loop
 array-read-marks c =
-    let s = now (c .before .before .before .before .before .before .args .s) in
     let i = c .before .before .before .before .loop .at + 1 in
-    let e : c .number .result ≡ getD s i 0 = c .number .ensures ∙ number-one s i in
-    omega (arith, c .before .before .before .before .before .shared-slice-known .given i)
+    omega (arith, code-is c, stands (c .before) .code, c .before .before .before .before .before .shared-slice-known .given i)
 
 marked-requires : tie.Need-marked-requires Inv-loop μ-loop
 marked-requires c κs = search needs
 
 returns-2 : tie.Need-returns-2 Inv-loop μ-loop
 returns-2 c =
-    let s = now (c .before .before .before .before .before .before .before .before .args .s) in
+    let x = stands (c .before .before .before) in
     let l = c .before .before .before .before .before .before .loop in
-    let x = step s (l .at) _ (c .before .before .before .before .attribute-size .ensures) (c .before .before .before .if1 .left) in
-    let n = c .before .before .number in
-    let e : getD (drop (l .at) s) 1 0 ≡ n .result = x .code ∙ sym (n .ensures ∙ number-one s (l .at + 1)) in
-    sym (sound-marked (drop (l .at) s) (x .some) e (marks (l .seen)) (sym (c .before .marked .ensures) ∙ c .if2 .taken)) ∙ l .inv .2
+    sym (sound-marked _ (x .some) (code-is (c .before .before)) (marks (l .seen)) (sym (c .before .marked .ensures) ∙ c .if2 .taken)) ∙ l .inv .2
 
 mark-requires : tie.Need-mark-requires Inv-loop μ-loop
 mark-requires c κs =
     let n = c .before .before .number .result in
-    (omega arith, bit-clear (getD (c .before .before .before .before .before .before .loop .seen) (n / 64) 0 / 2 ^ (n % 64)) (sym (c .before .marked .ensures) ∙ c .if2 .left))
+    let word = getD (c .before .before .before .before .before .before .loop .seen) (n / 64) 0 in
+    (omega arith, bit-clear (word / 2 ^ (n % 64)) (sym (c .before .marked .ensures) ∙ c .if2 .left))
 
 mul-seen : tie.Need-mul-seen Inv-loop μ-loop
 mul-seen c = mul-marks (c .before .before .before)
@@ -81,28 +85,22 @@ array-write-seen c = array-read-marks (c .before .before .before)
 
 add-at : tie.Need-add-at Inv-loop μ-loop
 add-at c =
-    let s = now (c .before .before .before .before .before .before .before .before .before .args .s) in
-    let l = c .before .before .before .before .before .before .before .loop in
-    let x = step s (l .at) _ (c .before .before .before .before .before .attribute-size .ensures) (c .before .before .before .before .if1 .left) in
+    let x = stands (c .before .before .before .before) in
     omega arith
 
 loop-less : tie.Need-loop-less Inv-loop μ-loop
 loop-less c =
-    let s = now (c .before .before .before .before .before .before .before .before .before .args .s) in
-    let l = c .before .before .before .before .before .before .before .loop in
-    let x = step s (l .at) _ (c .before .before .before .before .before .attribute-size .ensures) (c .before .before .before .before .if1 .left) in
+    let x = stands (c .before .before .before .before) in
     omega arith
 
 loop-again : tie.Need-loop-again Inv-loop μ-loop
 loop-again c =
-    let s = now (c .before .before .before .before .before .before .before .before .before .args .s) in
+    let x = stands (c .before .before .before .before) in
     let l = c .before .before .before .before .before .before .before .loop in
-    let x = step s (l .at) _ (c .before .before .before .before .before .attribute-size .ensures) (c .before .before .before .before .if1 .left) in
-    let n = c .before .before .before .number in
-    let e : getD (drop (l .at) s) 1 0 ≡ n .result = x .code ∙ sym (n .ensures ∙ number-one s (l .at + 1)) in
-    let u : marks (l .seen) (n .result) ≡ false = sym (c .before .before .marked .ensures) ∙ c .before .if2 .left in
-    let a = marking-adds (l .seen) (n .result) (rw (l .inv .1) (array-read-marks (c .before .before .before))) u in
-    (x .fits, simp length-set (l .inv .1), rw (c .mark .ensures, ← x .next) (sym (sound-next (drop (l .at) s) (x .some) e a u) ∙ l .inv .2))
+    let n = c .before .before .before .number .result in
+    let u : marks (l .seen) n ≡ false = sym (c .before .before .marked .ensures) ∙ c .before .if2 .left in
+    let a = marking-adds (l .seen) n (rw (l .inv .1) (array-read-marks (c .before .before .before))) u in
+    (x .fits, simp length-set (l .inv .1), rw (c .mark .ensures, ← x .next) (sym (sound-next _ (x .some) (code-is (c .before .before .before)) a u) ∙ l .inv .2))
 
 returns-3 : tie.Need-returns-3 Inv-loop μ-loop
 returns-3 c =

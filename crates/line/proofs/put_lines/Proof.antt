@@ -1,8 +1,6 @@
 -- `line::put_lines` meets its contract: one line after another, of the parts and of no attributes. Assumes nothing.
-use Rattle.octets.specs.Rows.{itemsIn}
-use Rattle.octets.proofs.Writes.{both}
-use Rattle.message.specs.Decode.{messageAt}
-use Rattle.line.specs.Line.{linesOf}
+use denote.Ref.{now}
+use Rattle.line.proofs.Lines.{lines-written}
 use borrow.Author.Needs.{needs}
 use Rattle.line.proofs.put_lines.Statement.{statement}
 use Rattle.line.proofs.put_lines.Tie as tie
@@ -29,9 +27,9 @@ same-length : tie.Need-same-length
 same-length c = search needs
 
 returns : tie.Need-returns
-unfolding linesOf messageAt itemsIn
-returns c = both _ _ (rw (c .before .before .before .before .before .before .before .before .before .before .before .part-of .ensures, c .before .before .before .before .before .before .before .before .before .before .part-of2 .ensures) at (c .before .before .before .before .before .before .put-line .ensures))
-    (rw (c .before .before .before .before .before .before .before .before .before .part-of3 .ensures, c .before .before .before .before .before .before .before .before .part .ensures) at (c .before .before .put-line2 .ensures))
+returns c = let a = c .before .before .before .before .before .before .before .before .before .before .before .before .before .before .args in
+    lines-written (now (a .s)) (a .parts) (c .before .before .before .before .before .before .before .before .before .before .before .part-of .ensures) (c .before .before .before .before .before .before .before .before .before .before .part-of2 .ensures) (c .before .before .before .before .before .before .before .before .before .part-of3 .ensures) (c .before .before .before .before .before .before .before .before .part .ensures)
+    (c .before .before .before .before .before .before .put-line .ensures) (c .before .before .put-line2 .ensures)
 
 pub put-lines-spec : {M : Type 1} → statement M
 put-lines-spec =

@@ -22,7 +22,7 @@ same-length c = search needs
 returns : tie.Need-returns
 returns c = let a = c .before .before .before .before .before .before .before .before .args in
     let o : Octets (now (a .s)) = record { below = λ i. c .before .before .before .before .before .before .before .shared-slice-known .given i .fits } in
-    let h = lines-fit o (a .parts) (omega arith) (omega arith) (omega arith) (length (now (a .out))) (sym (c .before .before .before .before .before .ample .ensures) ∙ c .before .before .before .before .if1 .taken) in
+    let h = lines-fit o (a .parts) (omega arith) (length (now (a .out))) (sym (c .before .before .before .before .before .ample .ensures) ∙ c .before .before .before .before .if1 .taken) in
     fitting h (c .before .before .put-lines .ensures)
 
 slice-relend-prefix-put-lines : tie.Need-slice-relend-prefix-put-lines
