@@ -9,13 +9,13 @@ use lib.ListN.{length, getD, take, drop, length-append, length-drop}
 use lib.Seq.{take-add}
 use lib.Dec.{eqb}
 use Rattle.octets.specs.Choice.{pick}
-use Rattle.octets.specs.Numbers.{Octets, Field}
+use Rattle.octets.specs.Numbers.{Octets, Field, bytesOf}
 use Rattle.octets.specs.Rows.{Joined}
 use Rattle.octets.proofs.Bytes.{octets-drop}
 use Rattle.octets.proofs.Rows.{Reads, total, items-cost}
 use Rattle.aspath.specs.Members.{Kind, set, sequence, Segment, members}
 use Rattle.aspath.specs.Wire.{kindCode, SegmentBytes, segmentSize, segmentOf, segmentsOf}
-use Rattle.octets.proofs.Encode.{bytesOf, bytes-field, Every, every-at, joined-exist, joined-length}
+use Rattle.octets.proofs.Encode.{bytes-field, Every, every-at, joined-exist, joined-length}
 use Rattle.aspath.proofs.Segments.{Stands, stands-size, size-stands, segment-sizes}
 use Rattle.aspath.proofs.NumberReads.{numbers-length, numbers-bytes, numbers-same, numbers-sound}
 

@@ -4,7 +4,7 @@ use native.Mathlib.Omega.{arith}
 use mathlib.Core.Path.{_≡_, refl, ap, _∙_}
 use mathlib.Core.List.{List, [], _∷_}
 use lib.ListN.{length}
-use Rattle.octets.specs.Numbers.{Octets}
+use Rattle.octets.specs.Numbers.{Octets, bytesOf}
 use Rattle.octets.specs.Rows.{Joined}
 use Rattle.octets.proofs.Bytes.{octets-none, octets-append}
 use Rattle.octets.proofs.Rows.{total}
@@ -14,7 +14,7 @@ use Rattle.aspath.proofs.SegmentReads.{Encodable as EncodableSegment, segmentCo
 use Rattle.attributes.specs.Attribute.{Attribute, origin, asPath, nextHop, atomicAggregate, other, codeOf}
 use Rattle.attributes.specs.Wire.{Raw}
 use Rattle.attributes.specs.Bodies.{Unchecked, HasBody, AttributeBytes}
-use Rattle.octets.proofs.Encode.{bytesOf, bytes-field, octets-one, Every}
+use Rattle.octets.proofs.Encode.{bytes-field, octets-one, Every}
 use Rattle.octets.proofs.Items.{joined-octets, sized-exist}
 use Rattle.attributes.proofs.RawReads.{withHeader, raw-exists}
 

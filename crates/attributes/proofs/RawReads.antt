@@ -10,13 +10,13 @@ use lib.Seq.{take-add, drop-drop, take-append-seam, drop-append-seam, length-tak
 use lib.Dec.{ltb}
 use borrow.Author.Tests.{le-leb, lt-leb, lt-ltb, le-ltb}
 use Rattle.octets.specs.Choice.{pick}
-use Rattle.octets.specs.Numbers.{Octets, numberAt}
+use Rattle.octets.specs.Numbers.{Octets, numberAt, bytesOf}
 use Rattle.octets.proofs.Bytes.{octets-take, octets-drop, octets-append}
 use Rattle.octets.proofs.Numbers.{number-front, number-after, number-take}
 use Rattle.octets.proofs.Rows.{Reads}
 use Rattle.attributes.specs.Wire.{Raw, RawBytes, lengthWidth, headerSize, bodySize, attributeSize, rawOf}
 use Rattle.attributes.proofs.Sizes.{fits-stands, size-stands, attribute-sizes}
-use Rattle.octets.proofs.Encode.{bytesOf, bytes-field, bytes-length, octets-one}
+use Rattle.octets.proofs.Encode.{bytes-field, bytes-length, octets-one}
 
 -- ---- reading an attribute's bytes
 

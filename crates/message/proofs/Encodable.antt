@@ -4,11 +4,11 @@ use native.Mathlib.Omega.{arith}
 use mathlib.Core.Path.{_≡_, refl, _∙_}
 use mathlib.Core.List.{List, [], _++_, map}
 use lib.ListN.{length, replicate, length-append}
-use Rattle.octets.specs.Numbers.{Free, Field}
+use Rattle.octets.specs.Numbers.{Free, Field, bytesOf}
 use Rattle.octets.specs.Rows.{Joined}
 use Rattle.octets.proofs.Bytes.{octets-none}
 use Rattle.octets.proofs.Rows.{total}
-use Rattle.octets.proofs.Encode.{bytesOf, bytes-length, bytes-octets, bytes-field, Every}
+use Rattle.octets.proofs.Encode.{bytes-length, bytes-octets, bytes-field, Every}
 use Rattle.network.specs.declared.Network.{Network}
 use Rattle.network.specs.Networks.{masked}
 use Rattle.network.specs.Wire.{bytesFor, PrefixBytes}

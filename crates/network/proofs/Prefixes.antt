@@ -11,7 +11,7 @@ use lib.Seq.{getD-drop, drop-drop, take-at, length-take-le}
 use lib.Dec.{ltb}
 use borrow.Author.Tests.{lt-ltb, le-ltb}
 use Rattle.octets.specs.Choice.{pick}
-use Rattle.octets.specs.Numbers.{Octets, numberAt}
+use Rattle.octets.specs.Numbers.{Octets, numberAt, bytesOf}
 use Rattle.octets.proofs.Bytes.{octets-drop, octets-take}
 use Rattle.octets.proofs.Numbers.{number-lt, number-drop, number-take}
 use Rattle.octets.proofs.Rows.{Sizes, Reads}
@@ -19,7 +19,7 @@ use Rattle.network.specs.declared.Network.{Network}
 use Rattle.network.specs.Networks.{cleared, masked}
 use Rattle.network.specs.Wire.{bytesFor, PrefixBytes, prefixSize, networkOf}
 use Rattle.network.proofs.Clearing.{cleared-le, cleared-again, cleared-same}
-use Rattle.octets.proofs.Encode.{bytesOf, bytes-field}
+use Rattle.octets.proofs.Encode.{bytes-field}
 use Rattle.octets.proofs.Numbers.{number-high, pow-bytes}
 
 -- a length's bytes hold it

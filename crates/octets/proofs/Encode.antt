@@ -6,18 +6,13 @@ use mathlib.Core.Path.{_≡_, refl, ap, _∙_}
 use mathlib.Core.List.{List, [], _∷_, _++_}
 use lib.ListN.{length, getD, length-append}
 use lib.Seq.{getD-at}
-use Rattle.octets.specs.Numbers.{Octets, Field, numberAt}
+use Rattle.octets.specs.Numbers.{Octets, Field, numberAt, bytesOf}
 use Rattle.octets.specs.Rows.{Joined, none, more}
 use Rattle.octets.proofs.Bytes.{octets-none, octets-append}
 use Rattle.octets.proofs.Numbers.{number-front}
 use Rattle.octets.proofs.Rows.{total}
 
 -- ---- numbers
-
--- the last w bytes of a number, the most significant first
-unfoldable pub bytesOf : ℕ → ℕ → List ℕ
-bytesOf zero n = []
-bytesOf (suc w) n = bytesOf w (n / 256) ++ ((n % 256) ∷ [])
 
 -- they are w
 pub bytes-length : (w n : ℕ) → length (bytesOf w n) ≡ w

@@ -6,4 +6,7 @@ pub mod Writes
 pub mod Decimal
 pub mod Rows
 pub mod Encode
+pub mod NumberBytes
+pub mod Every
 pub mod Items
+pub mod Ranges

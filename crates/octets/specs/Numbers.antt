@@ -1,7 +1,7 @@
 -- Numbers in bytes, the most significant first.
-use Prim.Native.Nat.{ℕ, zero, suc, _+_, _*_, _<_}
+use Prim.Native.Nat.{ℕ, zero, suc, _+_, _*_, _/_, _%_, _<_}
 use mathlib.Core.Path.{_≡_}
-use mathlib.Core.List.{List}
+use mathlib.Core.List.{List, [], _∷_, _++_}
 use lib.ListN.{length, getD}
 
 -- every member is a byte
@@ -23,3 +23,8 @@ pub record Field (w n : ℕ) (bytes : List ℕ) : Type 0 where
   pub long : length bytes ≡ w
   pub octets : Octets bytes
   pub value : numberAt bytes 0 w ≡ n
+
+-- the w bytes of a number
+unfoldable pub bytesOf : ℕ → ℕ → List ℕ
+bytesOf zero n = []
+bytesOf (suc w) n = bytesOf w (n / 256) ++ ((n % 256) ∷ [])

@@ -1,0 +1,118 @@
+-- `isValid` decides `Valid`: each of its tests against its part of the words, over the records read. Assumes nothing.
+use Prim.Native.Nat.{ℕ, suc, _*_, _/_, _%_, _≤_}
+use native.Mathlib.Omega.{arith}
+use mathlib.Core.Path.{_≡_, sym, ap, _∙_}
+use mathlib.Core.Bool.{true}
+use mathlib.Core.List.{List}
+use lib.ListN.{length, getD, drop}
+use lib.Dec.{eqb, leb}
+use borrow.Author.Tests.{leb-true, eqb-true, le-leb, eq-eqb}
+use Rattle.octets.specs.Numbers.{Octets}
+use Rattle.octets.proofs.Choices.{each}
+use Rattle.octets.proofs.Encode.{Every}
+use Rattle.program.specs.Records.{Record, flip, Possible, weightLimit}
+use Rattle.program.specs.Layout.{recordSize, encodeAll}
+use Rattle.program.specs.Machine.{recordsIn}
+use Rattle.program.specs.Validity.{Valid, allRightIn, testKind, groupedIn, landingIn, isValid}
+use Rattle.program.proofs.LayoutLaws.{encodeAll-length, records-encoded}
+use Rattle.program.proofs.RightLaws.{encode-right}
+use Rattle.octets.proofs.Every.{every-place}
+use Rattle.program.proofs.ValidKinds.{test-by-kind, kind-of-test}
+use Rattle.program.proofs.ValidRecords.{Right, right-sound, encodeAll-at, kind-at}
+use Rattle.octets.proofs.Every.{every-places}
+use Rattle.program.proofs.ValidWalks.{walk-complete, right-walks}
+use Rattle.program.proofs.ValidGroups.{grouped-sound, grouped-complete}
+use Rattle.program.proofs.ValidLandings.{landing-sound, landing-complete}
+
+-- what each test of a program says
+record Tests (program : List ℕ) : Type 0 where
+  some : recordSize ≤ length program
+  few : length program ≤ recordSize * weightLimit
+  whole : length program % recordSize ≡ 0
+  right : allRightIn (length program) program ≡ true
+  starts : testKind (getD program 0 0) ≡ true
+  grouped : groupedIn (length program) 0 program ≡ true
+  lands : landingIn (length program) program ≡ true
+
+-- a program that passes the tests passes each
+tests-sound : (program : List ℕ) → isValid program ≡ true → Tests program
+unfolding isValid
+tests-sound program t =
+    let a = each (leb recordSize (length program)) _ t in
+    let b = each (leb (length program) (recordSize * weightLimit)) _ (a .1) in
+    let c = each (eqb (length program % recordSize) 0) _ (b .1) in
+    let d = each (allRightIn (length program) program) _ (c .1) in
+    let e = each (testKind (getD program 0 0)) _ (d .1) in
+    let f = each (groupedIn (length program) 0 program) (landingIn (length program) program) (e .1) in
+    record {
+      some = leb-true _ _ (a .0);
+      few = leb-true _ _ (b .0);
+      whole = eqb-true _ _ (c .0);
+      right = d .0;
+      starts = e .0;
+      grouped = f .0;
+      lands = f .1;
+    }
+
+-- and the other way round
+tests-complete : {program : List ℕ} → Tests program → isValid program ≡ true
+unfolding isValid
+tests-complete t = rw (le-leb _ _ (t .some), le-leb _ _ (t .few), eq-eqb _ _ (t .whole), t .right, t .starts, t .grouped) (t .lands)
+
+-- a program of records that passes the tests is valid
+records-valid : (program : List ℕ) (rs : List Record) → Right program rs → Tests program → Valid program
+records-valid program rs r t =
+    let e : length program ≡ recordSize * length rs = ap length (r .encoded) ∙ encodeAll-length rs in
+    let some : 1 ≤ length rs = omega (arith, t .some) in
+    let long : length rs ≤ length program = omega arith in
+    record {
+      records = rs;
+      laid = r .encoded;
+      some = some;
+      few = omega (arith, t .few);
+      possible = every-place (r .possible) flip;
+      starts = test-by-kind (getD rs 0 flip) (ap testKind (sym (kind-at rs (r .possible) 0 some) ∙ ap (λ (l : List ℕ). getD l 0 0) (sym (r .encoded))) ∙ t .starts);
+      grouped = grouped-sound (length program) rs long (r .possible) (ap (groupedIn (length program) 0) (sym (r .encoded)) ∙ t .grouped);
+      lands = landing-sound (length program) rs long (r .possible) (ap (landingIn (length program)) (sym (r .encoded)) ∙ t .lands);
+    }
+
+-- a program that is found valid is valid
+pub valid-sound : (program : List ℕ) → Octets program → isValid program ≡ true → Valid program
+valid-sound program o v =
+    let t = tests-sound program v in
+    let n = length program / recordSize in
+    let e : length program ≡ recordSize * n = omega (arith, t .whole) in
+    records-valid program (recordsIn program) (right-sound n (length program) program e (omega arith) o (t .right)) t
+
+module _ {program : List ℕ} (v : Valid program) where
+  -- each of its records is possible
+  every-possible : Every Possible (v .records)
+  every-possible = every-places (v .records) flip (v .possible)
+
+  -- the bytes of a valid program are 16 for each record
+  pub valid-length : length program ≡ recordSize * length (v .records)
+  valid-length = ap length (v .laid) ∙ encodeAll-length (v .records)
+
+  -- its records are those read
+  pub valid-records : recordsIn program ≡ v .records
+  valid-records = ap recordsIn (v .laid) ∙ records-encoded (v .records) every-possible
+
+  -- it passes the tests
+  tests-pass : Tests program
+  tests-pass =
+      let rs = v .records in
+      let long : length rs ≤ length program = omega (arith, valid-length) in
+      record {
+        some = omega (arith, valid-length, v .some);
+        few = omega (arith, valid-length, v .few);
+        whole = omega (arith, valid-length);
+        right = ap (allRightIn (length program)) (v .laid)
+            ∙ walk-complete right-walks (length program) rs (λ i h. rw (encodeAll-at rs i h) (encode-right (getD rs i flip) (v .possible i h) (encodeAll (drop (suc i) rs))));
+        starts = ap (λ (l : List ℕ). testKind (getD l 0 0)) (v .laid) ∙ ap testKind (kind-at rs every-possible 0 (v .some)) ∙ kind-of-test (getD rs 0 flip) (v .starts);
+        grouped = ap (groupedIn (length program) 0) (v .laid) ∙ grouped-complete (length program) rs long every-possible (v .grouped);
+        lands = ap (landingIn (length program)) (v .laid) ∙ landing-complete (length program) rs every-possible (v .lands);
+      }
+
+  -- no valid program is missed
+  pub valid-complete : isValid program ≡ true
+  valid-complete = tests-complete tests-pass

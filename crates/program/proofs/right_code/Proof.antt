@@ -1,0 +1,20 @@
+-- `program::right_code` meets its contract, by the tests in the order of its definition. Assumes nothing.
+use borrow.Author.Needs.{needs}
+use borrow.Author.Tests.{eq-eqb, ne-eqb, lt-ltb, le-ltb}
+use Rattle.program.proofs.right_code.Statement.{statement}
+use Rattle.program.proofs.right_code.Tie as tie
+
+returns : tie.Need-returns
+returns c = search (needs, ne-eqb)
+
+returns-2 : tie.Need-returns-2
+returns-2 c = search (needs, eq-eqb, ne-eqb)
+
+returns-3 : tie.Need-returns-3
+returns-3 c = search (needs, eq-eqb, le-ltb)
+
+returns-4 : tie.Need-returns-4
+returns-4 c = search (needs, eq-eqb, lt-ltb)
+
+pub right-code-spec : {M : Type 1} → statement M
+right-code-spec = tie.close (tie.spec returns returns-2 returns-3 returns-4)

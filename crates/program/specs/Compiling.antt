@@ -1,0 +1,39 @@
+-- The records of a reading.
+use Prim.Native.Nat.{ℕ}
+use mathlib.Core.List.{List, [], _∷_, _++_, map}
+use lib.ListN.{length}
+use Rattle.aspath.specs.declared.Item.{Item}
+use Rattle.program.specs.Readings.{Test, typeIs, hasAttribute, pathMatches, peerIs, hasLoop, hasBogon, networkIs, timeIs, Reading, test, neg, joint}
+use Rattle.program.specs.Records.{Record, type, attribute, path, item, peer, loops, bogon, network, time, flip, pass}
+use Rattle.program.specs.Layout.{encodeAll}
+
+-- the record of a test, and its items
+unfoldable pub headOf : Test → Record
+headOf (typeIs c) = type c
+headOf (hasAttribute c) = attribute c
+headOf (pathMatches p) = path (p .start) (p .end) (length (p .items))
+headOf (peerIs p) = peer p
+headOf hasLoop = loops
+headOf hasBogon = bogon
+headOf (networkIs r n s) = network r n s
+headOf (timeIs c s m) = time c s m
+
+unfoldable pub itemsOf : Test → List Item
+itemsOf (typeIs c) = []
+itemsOf (hasAttribute c) = []
+itemsOf (pathMatches p) = p .items
+itemsOf (peerIs p) = []
+itemsOf hasLoop = []
+itemsOf hasBogon = []
+itemsOf (networkIs r n s) = []
+itemsOf (timeIs c s m) = []
+
+-- a test is its record and its items; `!x` is x, then a flip; a joint is its left side, a pass over its right side, and that
+unfoldable pub records : Reading → List Record
+records (test t) = headOf t ∷ map item (itemsOf t)
+records (neg r) = records r ++ (flip ∷ [])
+records (joint o a b) = records a ++ (pass o (length (records b)) ∷ records b)
+
+-- the program of a reading
+abbrev pub programOf : Reading → List ℕ
+programOf r = encodeAll (records r)

@@ -1,0 +1,6 @@
+pub mod Readings
+pub mod Records
+pub mod Layout
+pub mod Compiling
+pub mod Machine
+pub mod Validity
