@@ -1,0 +1,176 @@
+-- What is read is derived. `Before` says which tokens lead to a hole, `At` which lead to a state. Assumes nothing.
+use Prim.Native.Nat.{ℕ, _≤_}
+use mathlib.Core.Path.{_≡_, refl, _∙_}
+use mathlib.Core.Bool.{Bool, true, false}
+use mathlib.Core.Option.{Option, none, some}
+use mathlib.Core.List.{List, [], _∷_, _++_, append-assoc, append-nil}
+use lib.Dec.{ltb}
+use Rattle.program.specs.Readings.{Test, and, or, Reading}
+use Rattle.filter.specs.Tokens.{Word, Token, open′, close, bang, word, quoted}
+use Rattle.filter.specs.Words.{Name, Role, joins, flag, name, Says, Means}
+use Rattle.filter.specs.Grammar.{Operand, a-word, a-quoted, Part, expression, conjunction, factor, Reads, flagged, tested, negated, grouped, single, anded, lone, ored}
+use Rattle.filter.specs.Levels.{levels}
+use Rattle.filter.proofs.Decided.{Decided}
+use Rattle.filter.proofs.Walks.{no-ok}
+use Rattle.filter.proofs.Reader.{Hole, whole, grouping, first, oring, head, anding, negating, State, want, operand, have, level, Move, takes, opens, stuck, breaks, Way, came, stopped, ok, settle, outer, again, leave, end, begin, fill, join, admit, follow, finish, conclude, answered, start, move, step, walk, read}
+use Rattle.filter.proofs.Agree.{levels-within}
+
+-- these tokens lead to h
+pub data Before : (p : Part) → List Token → Hole p → Type 0 where
+  at-whole : Before expression [] whole
+  at-group : {ts : List Token} {h : Hole factor} → Before factor ts h → Before expression (ts ++ (open′ ∷ [])) (grouping h)
+  at-first : {ts : List Token} {h : Hole expression} → Before expression ts h → Before conjunction ts (first h)
+  at-or : {ts us : List Token} {a : Reading} {h : Hole expression} (w : Word) → Says w (joins or) → Before expression ts h
+      → Reads expression us a → Before conjunction (ts ++ (us ++ (word w ∷ []))) (oring a h)
+  at-head : {ts : List Token} {h : Hole conjunction} → Before conjunction ts h → Before factor ts (head h)
+  at-and : {ts us : List Token} {a : Reading} {h : Hole conjunction} (w : Word) → Says w (joins and) → Before conjunction ts h
+      → Reads conjunction us a → Before factor (ts ++ (us ++ (word w ∷ []))) (anding a h)
+  at-not : {ts : List Token} {h : Hole factor} → Before factor ts h → Before factor (ts ++ (bang ∷ [])) (negating h)
+
+-- ts is what leads to h, and a part in h that reads as r
+abbrev pub Had : (p : Part) → List Token → Reading → Hole p → Type 0
+Had p ts r h = (us vs : List Token) × (ts ≡ us ++ vs) × Before p us h × Reads p vs r
+
+-- ts leads to a state
+abbrev pub At : List Token → State → Type 0
+At ts (want h) = Before factor ts h
+At ts (operand k h) = (us : List Token) × (w : Word) × (ts ≡ us ++ (word w ∷ [])) × Says w (name k) × Before factor us h
+At ts (have r h) = Had conjunction ts r h
+
+-- a factor read in a hole leads to the state that it settles in
+settle-at : {ts us : List Token} {r : Reading} {h : Hole factor} → Before factor ts h → Reads factor us r → At (ts ++ us) (settle r h)
+unfolding settle
+settle-at (at-head b) d = (_, _, refl, b, single d)
+settle-at {us = us} (at-and {ts = ts} {us = vs} w q b c) d = (ts, vs ++ (word w ∷ us), simp append-assoc, b, anded w c q d)
+settle-at {us = us} (at-not {ts = ts} b) d = rw (append-assoc ts (bang ∷ []) us) (settle-at b (negated d))
+
+-- a conjunction that ends makes the expression around it
+outer-at : {ts : List Token} {r : Reading} {h : Hole conjunction} → Had conjunction ts r h → Had expression ts (outer r h .0) (outer r h .1)
+unfolding outer
+outer-at (us, vs, e, at-first b, d) = (us, vs, e, b, lone d)
+outer-at (us, vs, e, at-or {ts = ts} {us = ws} w q b c, d) = (ts, ws ++ (word w ∷ vs), e ∙ simp append-assoc, b, ored w c q d)
+
+-- what a move, the end and a walk say of the tokens up to there
+abbrev pub Moved : List Token → Token → Move → Type 0
+Moved ts t (takes s) = At (ts ++ (t ∷ [])) s
+Moved ts t (opens s) = At (ts ++ (t ∷ [])) s
+Moved ts t stuck = Unit {0}
+Moved ts t breaks = (k : Name) × (h : Hole factor) × (v : Word) × At ts (operand k h) × Operand t v
+
+abbrev pub Ended : List Token → Option Reading → Type 0
+Ended ts none = Unit {0}
+Ended ts (some r) = Reads expression ts r
+
+abbrev pub Came : List Token → Way → Type 0
+Came ts (came s) = At ts s
+Came ts (stopped w us) = Unit {0}
+
+-- what `)` and the end lead to
+leave-at : {ts : List Token} (o : Reading × Hole expression) → Had expression ts (o .0) (o .1) → Moved ts close (leave o)
+unfolding leave
+leave-at (r, h) (us, vs, e, at-whole, d) = tt
+leave-at (r, h) (us, vs, e, at-group b, d) = rw e (simp append-assoc (settle-at b (grouped d)))
+
+end-at : {ts : List Token} (o : Reading × Hole expression) → Had expression ts (o .0) (o .1) → Ended ts (end o)
+unfolding end
+end-at (r, h) (us, vs, e, at-whole, d) = rw e d
+end-at (r, h) (us, vs, e, at-group b, d) = tt
+
+-- what a state that ends the text reads is derived
+pub finish-at : (ts : List Token) (s : State) → At ts s → Ended ts (finish s)
+unfolding finish
+finish-at ts (want h) a = tt
+finish-at ts (operand k h) a = tt
+finish-at ts (have r h) a = end-at (outer r h) (outer-at a)
+
+-- no tokens lead to the start
+pub at-start : At [] start
+at-start = at-head (at-first at-whole)
+
+-- what a word and an operand lead to
+begin-at : (ts : List Token) (h : Hole factor) (w : Word) → Before factor ts h
+    → (x : Option Role) → ((y : Role) → x ≡ some y → Says w y) → Moved ts (word w) (begin h x)
+unfolding begin
+begin-at ts h w b (some (flag x)) q = settle-at b (flagged (q (flag x) refl))
+begin-at ts h w b (some (name k)) q = (ts, w, refl, q (name k) refl, b)
+begin-at ts h w b (some (joins o)) q = tt
+begin-at ts h w b none q = tt
+
+fill-at : (ts : List Token) (k : Name) (h : Hole factor) (o : Token) (v : Word) → Operand o v → At ts (operand k h)
+    → (x : Option Test) → ((y : Test) → x ≡ some y → Means k v y) → Moved ts o (fill h x)
+unfolding fill
+fill-at ts k h o v a i none m = (k, h, v, i, a)
+fill-at ts k h o v a (us, w, e, q, b) (some x) m = rw (e, append-assoc us (word w ∷ []) (o ∷ [])) (settle-at b (tested q a (m x refl)))
+
+join-at : (ts : List Token) (r : Reading) (h : Hole conjunction) (w : Word) → Had conjunction ts r h
+    → (x : Option Role) → ((y : Role) → x ≡ some y → Says w y) → Moved ts (word w) (join r h x)
+unfolding join again
+join-at ts r h w (us, vs, e, b, d) (some (joins and)) q = rw (e, append-assoc us vs (word w ∷ [])) (at-and w (q (joins and) refl) b d)
+join-at ts r h w a (some (joins or)) q =
+    let (us, vs, e, b, d) = outer-at a in
+    rw (e, append-assoc us vs (word w ∷ [])) (at-head (at-or w (q (joins or) refl) b d))
+join-at ts r h w a (some (flag x)) q = tt
+join-at ts r h w a (some (name k)) q = tt
+join-at ts r h w a none q = tt
+
+module _ (D : Decided) where
+  -- what a token leads to, by its move
+  pub move-at : (ts : List Token) (s : State) (t : Token) → At ts s → Moved ts t (move D s t)
+  unfolding move
+  move-at ts (want h) open′ a = at-head (at-first (at-group a))
+  move-at ts (want h) bang a = at-not a
+  move-at ts (want h) close a = tt
+  move-at ts (want h) (word w) a = begin-at ts h w a (D .role w) (λ y. D .says w y .1)
+  move-at ts (want h) (quoted v) a = tt
+  move-at ts (operand k h) open′ a = tt
+  move-at ts (operand k h) bang a = tt
+  move-at ts (operand k h) close a = tt
+  move-at ts (operand k h) (word v) a = fill-at ts k h (word v) v a-word a (D .meaning k v) (λ y. D .means k v y .1)
+  move-at ts (operand k h) (quoted v) a = fill-at ts k h (quoted v) v a-quoted a (D .meaning k v) (λ y. D .means k v y .1)
+  move-at ts (have r h) open′ a = tt
+  move-at ts (have r h) bang a = tt
+  move-at ts (have r h) close a = leave-at (outer r h) (outer-at a)
+  move-at ts (have r h) (word w) a = join-at ts r h w a (D .role w) (λ y. D .says w y .1)
+  move-at ts (have r h) (quoted v) a = tt
+
+  module _ (L : ℕ) where
+    -- the tokens of a walk lead to the state that it comes to: from a state on, and from the start
+    pub walk-moves : (ts : List Token) (s : State) (us : List Token) → At ts s → Came (ts ++ us) (walk D L s us)
+    unfolding walk follow step admit
+    walk-moves ts s [] a = rw (append-nil ts) a
+    walk-moves ts s (t ∷ us) a = by-move (move D s t) (move-at ts s t a) (ltb (level s) L) (λ vs x. walk-moves vs x us)
+      where
+        by-move : (m : Move) → Moved ts t m → (b : Bool) → ((vs : List Token) (x : State) → At vs x → Came (vs ++ us) (walk D L x us))
+            → Came (ts ++ (t ∷ us)) (follow (admit b m) (λ x. walk D L x us) (t ∷ us))
+        by-move (takes x) w b f = rw (append-assoc ts (t ∷ []) us) at (f (ts ++ (t ∷ [])) x w)
+        by-move (opens x) w true f = rw (append-assoc ts (t ∷ []) us) at (f (ts ++ (t ∷ [])) x w)
+        by-move (opens x) w false f = tt
+        by-move stuck w b f = tt
+        by-move breaks w b f = tt
+
+    pub walk-at : (ts : List Token) (s : State) → walk D L start ts ≡ came s → At ts s
+    walk-at ts s e = rw e at (walk-moves [] start ts at-start)
+
+    -- where a walk comes to its end, what is read is derived
+    pub ended : (ts : List Token) (s : State) {r : Reading} → walk D L start ts ≡ came s → finish s ≡ some r → Reads expression ts r
+    ended ts s e f = rw f at (finish-at ts s (walk-at ts s e))
+
+    -- what is read has been walked
+    ok-walks : (ts : List Token) (r : Reading) → read D L ts ≡ ok r → (s : State) × (walk D L start ts ≡ came s) × (finish s ≡ some r)
+    unfolding read answered conclude
+    ok-walks ts r e = by-way (walk D L start ts) refl e
+      where
+        by-end : (o : Option Reading) → conclude o ≡ ok r → o ≡ some r
+        by-end none e = no-ok (conclude none) e refl
+        by-end (some r′) e = cc
+
+        by-way : (w : Way) → walk D L start ts ≡ w → answered w ≡ ok r → (s : State) × (walk D L start ts ≡ came s) × (finish s ≡ some r)
+        by-way (came s) p q = (s, p, by-end (finish s) q)
+        by-way (stopped y us) p q = no-ok (answered (stopped y us)) q refl
+
+    -- what is read is derived so, within the limit
+    pub sound : (ts : List Token) {r : Reading} → read D L ts ≡ ok r → (d : Reads expression ts r) × (levels d ≤ L)
+    sound ts {r} e = by-walk (ok-walks ts r e)
+      where
+        by-walk : (s : State) × (walk D L start ts ≡ came s) × (finish s ≡ some r) → (d : Reads expression ts r) × (levels d ≤ L)
+        by-walk (s, p, q) = (ended ts s p q, levels-within D L ts s p (ended ts s p q))

@@ -1,0 +1,93 @@
+-- What a text is answered: the paper's words for 1 to 8, with no reader in them.
+use Prim.Native.Nat.{ℕ, suc, _+_, _*_, _≤_, _<_}
+use mathlib.Core.Path.{_≡_}
+use mathlib.Core.List.{List, [], _∷_, _++_}
+use lib.ListN.{length, getD}
+use Rattle.program.specs.Readings.{Reading, weight}
+use Rattle.program.specs.Records.{weightLimit}
+use Rattle.program.specs.Layout.{recordSize}
+use Rattle.filter.specs.Texts.{textLimit, levelLimit, Allowed, Every}
+use Rattle.filter.specs.Tokens.{Word, Token, bang, word, Placed, placed, Lexes, Unclosed}
+use Rattle.filter.specs.Words.{Name, name, Says}
+use Rattle.filter.specs.Grammar.{Operand, Part, expression, Reads}
+use Rattle.filter.specs.Levels.{levels, Open}
+
+-- some continuation of these tokens is derived: tokens of any number may follow
+pub record Alive (ts : List Token) : Type 0 where
+  pub more : List Token
+  pub reading : Reading
+  pub reads : Reads expression (ts ++ more) reading
+
+-- some continuation is derived with at most that many levels open at once: no token so far has 4, 5 or 6
+pub record Leads (limit : ℕ) (ts : List Token) : Type 0 where
+  pub more : List Token
+  pub reading : Reading
+  pub reads : Reads expression (ts ++ more) reading
+  pub within : levels reads ≤ limit
+
+-- after these tokens t stands as an operand: the last of them names a test that has one, where a factor may begin
+pub record Stands (ts : List Token) (t : Token) : Type 0 where
+  pub before : List Token
+  pub named : Word
+  pub test : Name
+  pub bytes : Word
+  pub joined : ts ≡ before ++ (word named ∷ [])
+  pub begins : Alive (before ++ (bang ∷ []))
+  pub says : Says named (name test)
+  pub operand : Operand t bytes
+
+-- tokens without their places
+unfoldable pub bare : List Placed → List Token
+bare [] = []
+bare (p ∷ more) = p .token ∷ bare more
+
+-- size and bytes are as allowed
+pub record Fine (text : List ℕ) : Type 0 where
+  pub short : length text ≤ textLimit
+  pub allowed : Every Allowed text
+
+-- the tokens of a text up to one at a place, and that one; no token before it has 4, 5 or 6
+pub record Reaches (text : List ℕ) (before : List Token) (t : Token) (place : ℕ) : Type 0 where
+  pub front : List Placed
+  pub back : List Placed
+  pub lexed : Lexes 0 text (front ++ (placed place t ∷ back))
+  pub tokens : bare front ≡ before
+  pub leads : Leads levelLimit before
+
+-- the grammar derives a text, with this reading, and its nesting is as allowed
+pub record Derives (text : List ℕ) (r : Reading) : Type 0 where
+  pub tokens : List Placed
+  pub lexed : Lexes 0 text tokens
+  pub reads : Reads expression (bare tokens) r
+  pub within : levels reads ≤ levelLimit
+
+pub data Outcome : Type 0 where
+  compiled : Reading → Outcome
+  -- a number and a place
+  refused : ℕ → ℕ → Outcome
+
+-- the answer for a text and a program buffer of so many bytes
+pub data Answers (text : List ℕ) (room : ℕ) : Outcome → Type 0 where
+  -- 1: text over 4,096 bytes
+  too-long : textLimit < length text → Answers text room (refused 1 0)
+  -- 2: a forbidden byte, at the first one's place
+  forbidden : (p : ℕ) → length text ≤ textLimit → p < length text → ((i : ℕ) → i < p → Allowed (getD text i 0)) → (Allowed (getD text p 0) → ⊥)
+      → Answers text room (refused 2 p)
+  -- 3: quote not closed, at its opening
+  unclosed : {p : ℕ} → Fine text → Unclosed text p → Answers text room (refused 3 p)
+  -- 4: a token that no continuation allows, and that is no operand; or the end of the text
+  bad-token : {ts : List Token} {t : Token} {p : ℕ} → Fine text → Reaches text ts t p → (Alive (ts ++ (t ∷ [])) → ⊥) → (Stands ts t → ⊥)
+      → Answers text room (refused 4 p)
+  bad-end : (ts : List Placed) → Fine text → Lexes 0 text ts → Leads levelLimit (bare ts) → ((r : Reading) → Reads expression (bare ts) r → ⊥)
+      → Answers text room (refused 4 (length text))
+  -- 5: operand breaks its test's rule
+  bad-operand : {ts : List Token} {t : Token} {p : ℕ} → Fine text → Reaches text ts t p → (Alive (ts ++ (t ∷ [])) → ⊥) → Stands ts t
+      → Answers text room (refused 5 p)
+  -- 6: `(` or `!` opening level 33
+  too-deep : {ts : List Token} {t : Token} {p : ℕ} → Fine text → Reaches text ts t p → Open (ts ++ (t ∷ [])) (suc levelLimit)
+      → Answers text room (refused 6 p)
+  -- 7: weight over 512
+  too-heavy : {r : Reading} → Fine text → Derives text r → weightLimit < weight r → Answers text room (refused 7 0)
+  -- 8: program buffer under 16 x weight bytes
+  no-room : {r : Reading} → Fine text → Derives text r → weight r ≤ weightLimit → room < recordSize * weight r → Answers text room (refused 8 0)
+  compiles : {r : Reading} → Fine text → Derives text r → weight r ≤ weightLimit → recordSize * weight r ≤ room → Answers text room (compiled r)

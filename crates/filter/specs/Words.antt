@@ -1,0 +1,62 @@
+-- The words of the language, and what each test's operand means.
+use Prim.Native.Nat.{ℕ, _<_}
+use mathlib.Core.Path.{_≡_}
+use mathlib.Core.List.{List, [], _∷_}
+use lib.ListN.{length, getD}
+use Rattle.network.specs.declared.Network.{Network}
+use Rattle.network.specs.declared.Relation.{Relation}
+use Rattle.network.specs.declared.Relation.the-variants.{Exact, Supernet, Subnet, Related}
+use Rattle.aspath.specs.Patterns.{Pattern}
+use Rattle.program.specs.Readings.{Peer, Side, Comparison, Test, typeIs, hasAttribute, pathMatches, peerIs, hasLoop, hasBogon, networkIs, timeIs, Operator, and, or}
+use Rattle.filter.specs.Operands.{typeNames, attributeNames, CodeOperand, NetworkOperand, PeerOperand, PatternOperand, TimeOperand}
+
+-- the tests that have an operand
+pub data Name : Type 0 where
+  typeName attributeName pathName peerName timeName : Name
+  networkName : Relation → Name
+
+-- what a word says where a factor or a joint may stand
+pub data Role : Type 0 where
+  joins : Operator → Role
+  flag : Test → Role
+  name : Name → Role
+
+pub record Entry : Type 0 where
+  pub word : List ℕ
+  pub role : Role
+
+abbrev entry : List ℕ → Role → Entry
+entry w r = record { word = w; role = r }
+
+-- words are exact: every word of the language stands here
+unfoldable pub vocabulary : List Entry
+vocabulary =
+    entry (45 ∷ 97 ∷ 110 ∷ 100 ∷ []) (joins and)  -- -and
+    ∷ entry (45 ∷ 111 ∷ 114 ∷ []) (joins or)  -- -or
+    ∷ entry (45 ∷ 108 ∷ 111 ∷ 111 ∷ 112 ∷ 115 ∷ []) (flag hasLoop)  -- -loops
+    ∷ entry (45 ∷ 98 ∷ 111 ∷ 103 ∷ 111 ∷ 110 ∷ 45 ∷ 97 ∷ 115 ∷ 110 ∷ []) (flag hasBogon)  -- -bogon-asn
+    ∷ entry (45 ∷ 116 ∷ 121 ∷ 112 ∷ 101 ∷ []) (name typeName)  -- -type
+    ∷ entry (45 ∷ 97 ∷ 116 ∷ 116 ∷ 114 ∷ []) (name attributeName)  -- -attr
+    ∷ entry (45 ∷ 97 ∷ 115 ∷ 112 ∷ 97 ∷ 116 ∷ 104 ∷ []) (name pathName)  -- -aspath
+    ∷ entry (45 ∷ 112 ∷ 101 ∷ 101 ∷ 114 ∷ []) (name peerName)  -- -peer
+    ∷ entry (45 ∷ 101 ∷ 120 ∷ 97 ∷ 99 ∷ 116 ∷ []) (name (networkName Exact))  -- -exact
+    ∷ entry (45 ∷ 115 ∷ 117 ∷ 112 ∷ 101 ∷ 114 ∷ 110 ∷ 101 ∷ 116 ∷ []) (name (networkName Supernet))  -- -supernet
+    ∷ entry (45 ∷ 115 ∷ 117 ∷ 98 ∷ 110 ∷ 101 ∷ 116 ∷ []) (name (networkName Subnet))  -- -subnet
+    ∷ entry (45 ∷ 114 ∷ 101 ∷ 108 ∷ 97 ∷ 116 ∷ 101 ∷ 100 ∷ []) (name (networkName Related))  -- -related
+    ∷ entry (45 ∷ 116 ∷ 105 ∷ 109 ∷ 101 ∷ 115 ∷ 116 ∷ 97 ∷ 109 ∷ 112 ∷ []) (name timeName)  -- -timestamp
+    ∷ []
+
+pub record Says (w : List ℕ) (r : Role) : Type 0 where
+  pub row : ℕ
+  pub within : row < length vocabulary
+  pub word : getD vocabulary row (entry [] (joins and)) .word ≡ w
+  pub role : getD vocabulary row (entry [] (joins and)) .role ≡ r
+
+-- what a test with an operand of these bytes is, if the operand keeps the test's rule
+pub data Means : Name → List ℕ → Test → Type 0 where
+  type : {bs : List ℕ} {c : ℕ} → CodeOperand typeNames bs c → Means typeName bs (typeIs c)
+  attribute : {bs : List ℕ} {c : ℕ} → CodeOperand attributeNames bs c → Means attributeName bs (hasAttribute c)
+  path : {bs : List ℕ} {p : Pattern} → PatternOperand bs p → Means pathName bs (pathMatches p)
+  peer : {bs : List ℕ} {p : Peer} → PeerOperand bs p → Means peerName bs (peerIs p)
+  network : {bs : List ℕ} {r : Relation} {s : Side} {n : Network} → NetworkOperand bs s n → Means (networkName r) bs (networkIs r n s)
+  time : {bs : List ℕ} {c : Comparison} {s m : ℕ} → TimeOperand bs c s m → Means timeName bs (timeIs c s m)
