@@ -9,11 +9,10 @@ use mathlib.Core.List.{List, _++_}
 use lib.ListN.{length, take, drop, length-append, take-append-drop}
 use lib.Seq.{take-append-seam}
 use Rattle.program.specs.Readings.{Reading}
-use Rattle.filter.specs.Tokens.{Token}
+use Rattle.token.specs.Tokens.{Token}
 use Rattle.filter.specs.Grammar.{Part, expression, conjunction, factor, Reads}
 use Rattle.filter.specs.Levels.{openAt, Open, levels}
-use Rattle.filter.proofs.Decided.{Decided}
-use Rattle.filter.proofs.Reader.{whole, depth, State, level, came, finish, start, walk}
+use Rattle.filter.specs.Reader.{whole, depth, State, level, came, finish, start, walk}
 use Rattle.filter.proofs.Walks.{walk-split, wider}
 use Rattle.filter.proofs.Complete.{raised, derived-walks}
 use Rattle.filter.proofs.Counts.{open-past, Peak, peak}
@@ -33,80 +32,79 @@ raised-open {p = expression} d n = refl
 raised-open {p = conjunction} d n = refl
 raised-open {p = factor} d n = refl
 
-module _ (D : Decided) where
-  -- the levels that a derivation counts after n tokens are those open in the reader
-  pub count-level : (L : ℕ) (ts : List Token) (n : ℕ) (s : State) {r : Reading} → walk D L start (take n ts) ≡ came s → (d : Reads expression ts r)
-      → n ≤ length ts → openAt d n ≡ level s
-  unfolding depth
-  count-level L ts n s e d i = by-place (located D M d whole n (omega arith) i)
-    where
-      M : ℕ
-      M = max L (levels d)
+-- the levels that a derivation counts after n tokens are those open in the reader
+pub count-level : (L : ℕ) (ts : List Token) (n : ℕ) (s : State) {r : Reading} → walk L start (take n ts) ≡ came s → (d : Reads expression ts r)
+    → n ≤ length ts → openAt d n ≡ level s
+unfolding depth
+count-level L ts n s e d i = by-place (located M d whole n (omega arith) i)
+  where
+    M : ℕ
+    M = max L (levels d)
 
-      by-place : Located D M start (take n ts) (0 + openAt d n) → openAt d n ≡ level s
-      by-place f =
-          let g : walk D M start (take n ts) ≡ came s = wider D L M (omega arith) start (take n ts) s e in
-          let h : f .state ≡ s = cc (f .walked) in
-          omega (arith, f .counted, ap level h)
+    by-place : Located M start (take n ts) (0 + openAt d n) → openAt d n ≡ level s
+    by-place f =
+        let g : walk M start (take n ts) ≡ came s = wider L M (omega arith) start (take n ts) s e in
+        let h : f .state ≡ s = cc (f .walked) in
+        omega (arith, f .counted, ap level h)
 
-  -- the same, where the tokens are those before a continuation
-  pub open-level : (L : ℕ) (ts more : List Token) (s : State) {r : Reading} → walk D L start ts ≡ came s → (d : Reads expression (ts ++ more) r)
-      → openAt d (length ts) ≡ level s
-  open-level L ts more s e d = count-level L (ts ++ more) (length ts) s (rw (take-append-seam ts more) e) d (omega (arith, length-append ts more))
+-- the same, where the tokens are those before a continuation
+pub open-level : (L : ℕ) (ts more : List Token) (s : State) {r : Reading} → walk L start ts ≡ came s → (d : Reads expression (ts ++ more) r)
+    → openAt d (length ts) ≡ level s
+open-level L ts more s e d = count-level L (ts ++ more) (length ts) s (rw (take-append-seam ts more) e) d (omega (arith, length-append ts more))
 
-  -- the state after the first tokens of what is derived
-  pub reached : (L : ℕ) (ts more : List Token) {r : Reading} (d : Reads expression (ts ++ more) r) → levels d ≤ L → (s : State) × (walk D L start ts ≡ came s)
-  reached L ts more {r} d l = by-walk (derived-walks D L d l)
-    where
-      by-walk : (s : State) × (walk D L start (ts ++ more) ≡ came s) × (finish s ≡ some r) → (s : State) × (walk D L start ts ≡ came s)
-      by-walk (s, e, f) = let (x, p, q) = walk-split D L start ts more s e in (x, p)
+-- the state after the first tokens of what is derived
+pub reached : (L : ℕ) (ts more : List Token) {r : Reading} (d : Reads expression (ts ++ more) r) → levels d ≤ L → (s : State) × (walk L start ts ≡ came s)
+reached L ts more {r} d l = by-walk (derived-walks L d l)
+  where
+    by-walk : (s : State) × (walk L start (ts ++ more) ≡ came s) × (finish s ≡ some r) → (s : State) × (walk L start ts ≡ came s)
+    by-walk (s, e, f) = let (x, p, q) = walk-split L start ts more s e in (x, p)
 
-  -- what is read within a limit has no derivation with more levels
-  pub levels-within : (L : ℕ) (ts : List Token) (s : State) {r : Reading} → walk D L start ts ≡ came s → (d : Reads expression ts r) → levels d ≤ L
-  unfolding level depth
-  levels-within L ts s e d = by-peak (peak d)
-    where
-      by-split : (q : Peak (openAt d) (length ts) (levels d)) → (x : State) × (walk D L start (take (q .place) ts) ≡ came x) × (walk D L x (drop (q .place) ts) ≡ came s)
-          → levels d ≤ L
-      by-split q (x, f, g) =
-          let i : level x ≤ L = walk-within D L start (take (q .place) ts) x (omega arith) f in
-          let j : openAt d (q .place) ≡ level x = count-level L ts (q .place) x f d (omega (arith, q .inside)) in
-          omega (arith, q .there)
+-- what is read within a limit has no derivation with more levels
+pub levels-within : (L : ℕ) (ts : List Token) (s : State) {r : Reading} → walk L start ts ≡ came s → (d : Reads expression ts r) → levels d ≤ L
+unfolding level depth
+levels-within L ts s e d = by-peak (peak d)
+  where
+    by-split : (q : Peak (openAt d) (length ts) (levels d)) → (x : State) × (walk L start (take (q .place) ts) ≡ came x) × (walk L x (drop (q .place) ts) ≡ came s)
+        → levels d ≤ L
+    by-split q (x, f, g) =
+        let i : level x ≤ L = walk-within L start (take (q .place) ts) x (omega arith) f in
+        let j : openAt d (q .place) ≡ level x = count-level L ts (q .place) x f d (omega (arith, q .inside)) in
+        omega (arith, q .there)
 
-      by-peak : Peak (openAt d) (length ts) (levels d) → levels d ≤ L
-      by-peak q = by-split q (walk-split D L start (take (q .place) ts) (drop (q .place) ts) s (rw (take-append-drop (q .place) ts) e))
+    by-peak : Peak (openAt d) (length ts) (levels d) → levels d ≤ L
+    by-peak q = by-split q (walk-split L start (take (q .place) ts) (drop (q .place) ts) s (rw (take-append-drop (q .place) ts) e))
 
-  -- two derivations of the same tokens have the same levels, at most and at each place
-  pub levels-one : {p : Part} {ts : List Token} {r r′ : Reading} (d : Reads p ts r) (d′ : Reads p ts r′) → levels d ≡ levels d′
-  levels-one {p} {ts} {r} {r′} d d′ = by-walks (derived-walks D (levels (raised d)) (raised d) (le-refl _)) (derived-walks D (levels (raised d′)) (raised d′) (le-refl _))
-    where
-      by-walks : (s : State) × (walk D (levels (raised d)) start ts ≡ came s) × (finish s ≡ some r)
-          → (s : State) × (walk D (levels (raised d′)) start ts ≡ came s) × (finish s ≡ some r′) → levels d ≡ levels d′
-      by-walks (s, e, f) (s′, e′, f′) =
-          let i : levels (raised d′) ≤ levels (raised d) = levels-within (levels (raised d)) ts s e (raised d′) in
-          let j : levels (raised d) ≤ levels (raised d′) = levels-within (levels (raised d′)) ts s′ e′ (raised d) in
-          omega (arith, raised-levels d, raised-levels d′)
+-- two derivations of the same tokens have the same levels, at most and at each place
+pub levels-one : {p : Part} {ts : List Token} {r r′ : Reading} (d : Reads p ts r) (d′ : Reads p ts r′) → levels d ≡ levels d′
+levels-one {p} {ts} {r} {r′} d d′ = by-walks (derived-walks (levels (raised d)) (raised d) (le-refl _)) (derived-walks (levels (raised d′)) (raised d′) (le-refl _))
+  where
+    by-walks : (s : State) × (walk (levels (raised d)) start ts ≡ came s) × (finish s ≡ some r)
+        → (s : State) × (walk (levels (raised d′)) start ts ≡ came s) × (finish s ≡ some r′) → levels d ≡ levels d′
+    by-walks (s, e, f) (s′, e′, f′) =
+        let i : levels (raised d′) ≤ levels (raised d) = levels-within (levels (raised d)) ts s e (raised d′) in
+        let j : levels (raised d) ≤ levels (raised d′) = levels-within (levels (raised d′)) ts s′ e′ (raised d) in
+        omega (arith, raised-levels d, raised-levels d′)
 
-  pub open-same : {p : Part} {ts : List Token} {r r′ : Reading} (d : Reads p ts r) (d′ : Reads p ts r′) (n : ℕ) → openAt d n ≡ openAt d′ n
-  open-same {p} {ts} {r} {r′} d d′ n = by-place (decLe n (length ts))
-    where
-      L : ℕ
-      L = levels (raised d)
+pub open-same : {p : Part} {ts : List Token} {r r′ : Reading} (d : Reads p ts r) (d′ : Reads p ts r′) (n : ℕ) → openAt d n ≡ openAt d′ n
+open-same {p} {ts} {r} {r′} d d′ n = by-place (decLe n (length ts))
+  where
+    L : ℕ
+    L = levels (raised d)
 
-      by-state : n ≤ length ts → (x : State) → walk D L start (take n ts) ≡ came x → openAt d n ≡ openAt d′ n
-      by-state i x f =
-          sym (raised-open d n) ∙ (count-level L ts n x f (raised d) i ∙ (sym (count-level L ts n x f (raised d′) i) ∙ raised-open d′ n))
+    by-state : n ≤ length ts → (x : State) → walk L start (take n ts) ≡ came x → openAt d n ≡ openAt d′ n
+    by-state i x f =
+        sym (raised-open d n) ∙ (count-level L ts n x f (raised d) i ∙ (sym (count-level L ts n x f (raised d′) i) ∙ raised-open d′ n))
 
-      by-walk : n ≤ length ts → (s : State) × (walk D L start ts ≡ came s) × (finish s ≡ some r) → openAt d n ≡ openAt d′ n
-      by-walk i (s, e, f) = let (x, p, q) = walk-split D L start (take n ts) (drop n ts) s (rw (take-append-drop n ts) e) in by-state i x p
+    by-walk : n ≤ length ts → (s : State) × (walk L start ts ≡ came s) × (finish s ≡ some r) → openAt d n ≡ openAt d′ n
+    by-walk i (s, e, f) = let (x, p, q) = walk-split L start (take n ts) (drop n ts) s (rw (take-append-drop n ts) e) in by-state i x p
 
-      by-place : Dec (n ≤ length ts) → openAt d n ≡ openAt d′ n
-      by-place (yes i) = by-walk i (derived-walks D L (raised d) (le-refl _))
-      by-place (no i) = open-past d n (omega arith) ∙ sym (open-past d′ n (omega arith))
+    by-place : Dec (n ≤ length ts) → openAt d n ≡ openAt d′ n
+    by-place (yes i) = by-walk i (derived-walks L (raised d) (le-refl _))
+    by-place (no i) = open-past d n (omega arith) ∙ sym (open-past d′ n (omega arith))
 
-  -- all continuations agree on the number of open levels
-  pub open-one : {ts : List Token} {m n : ℕ} → Open ts m → Open ts n → m ≡ n
-  open-one {ts} {m} {n} a b = by-walk (reached (levels (a .reads)) ts (a .more) (a .reads) (le-refl _))
-    where
-      by-walk : (s : State) × (walk D (levels (a .reads)) start ts ≡ came s) → m ≡ n
-      by-walk (s, e) = sym (a .counted) ∙ (open-level _ ts (a .more) s e (a .reads) ∙ (sym (open-level _ ts (b .more) s e (b .reads)) ∙ b .counted))
+-- all continuations agree on the number of open levels
+pub open-one : {ts : List Token} {m n : ℕ} → Open ts m → Open ts n → m ≡ n
+open-one {ts} {m} {n} a b = by-walk (reached (levels (a .reads)) ts (a .more) (a .reads) (le-refl _))
+  where
+    by-walk : (s : State) × (walk (levels (a .reads)) start ts ≡ came s) → m ≡ n
+    by-walk (s, e) = sym (a .counted) ∙ (open-level _ ts (a .more) s e (a .reads) ∙ (sym (open-level _ ts (b .more) s e (b .reads)) ∙ b .counted))

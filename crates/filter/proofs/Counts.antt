@@ -10,7 +10,7 @@ use lib.ListN.{length, length-append}
 use borrow.Author.Tests.{lt-ltb, le-ltb, le-leb, lt-leb}
 use Rattle.octets.specs.Choice.{pick}
 use Rattle.program.specs.Readings.{Reading}
-use Rattle.filter.specs.Tokens.{Token, close, word}
+use Rattle.token.specs.Tokens.{Token, close, word}
 use Rattle.filter.specs.Grammar.{Part, Reads, flagged, tested, negated, grouped, single, anded, lone, ored}
 use Rattle.filter.specs.Levels.{openAt, levels}
 

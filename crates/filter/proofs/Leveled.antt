@@ -9,12 +9,13 @@ use mathlib.Core.List.{List, [], _∷_}
 use lib.Dec.{ltb}
 use borrow.Author.Tests.{ltb-true}
 use Rattle.program.specs.Readings.{Test, and, or, Reading, test, neg}
-use Rattle.filter.specs.Tokens.{Token, open′, close, bang, word, quoted}
+use Rattle.token.specs.Tokens.{Token, open′, close, bang, word, quoted}
 use Rattle.filter.specs.Words.{Role, joins, flag, name}
 use Rattle.filter.specs.Grammar.{expression, conjunction, factor}
-use Rattle.filter.proofs.Decided.{Decided}
-use Rattle.filter.proofs.Reader.{Hole, whole, grouping, first, oring, head, anding, negating, depth, State, want, operand, have, level, Move, takes, opens, stuck, breaks, came, settle, outer, again, leave, begin, fill, join, admit, follow, move, step, walk}
+use Rattle.filter.specs.Reader.{Hole, whole, grouping, first, oring, head, anding, negating, depth, State, want, operand, have, level, Move, takes, opens, stuck, breaks, came, settle, outer, again, leave, begin, fill, join, admit, follow, move, step, walk}
 use Rattle.filter.proofs.Walks.{no-came}
+use Rattle.operand.specs.Tests.{meaning}
+use Rattle.filter.specs.Words.{roleOf}
 
 -- a token that opens a level
 pub data Opener : Token → Type 0 where
@@ -67,36 +68,35 @@ join-level t r h (some (flag x)) = tt
 join-level t r h (some (name k)) = tt
 join-level t r h none = tt
 
-module _ (D : Decided) where
-  -- only a token that opens a level adds one
-  pub move-level : (s : State) (t : Token) → Leveled t (level s) (move D s t)
-  unfolding move level depth
-  move-level (want h) open′ = (a-group, refl)
-  move-level (want h) bang = (a-bang, refl)
-  move-level (want h) close = tt
-  move-level (want h) (word w) = begin-level (word w) h (D .role w)
-  move-level (want h) (quoted v) = tt
-  move-level (operand k h) open′ = tt
-  move-level (operand k h) bang = tt
-  move-level (operand k h) close = tt
-  move-level (operand k h) (word v) = fill-level (word v) h (D .meaning k v)
-  move-level (operand k h) (quoted v) = fill-level (quoted v) h (D .meaning k v)
-  move-level (have r h) open′ = tt
-  move-level (have r h) bang = tt
-  move-level (have r h) close = leave-level (outer r h) (depth h) (outer-depth r h)
-  move-level (have r h) (word w) = join-level (word w) r h (D .role w)
-  move-level (have r h) (quoted v) = tt
+-- only a token that opens a level adds one
+pub move-level : (s : State) (t : Token) → Leveled t (level s) (move s t)
+unfolding move level depth
+move-level (want h) open′ = (a-group, refl)
+move-level (want h) bang = (a-bang, refl)
+move-level (want h) close = tt
+move-level (want h) (word w) = begin-level (word w) h (roleOf w)
+move-level (want h) (quoted v) = tt
+move-level (operand k h) open′ = tt
+move-level (operand k h) bang = tt
+move-level (operand k h) close = tt
+move-level (operand k h) (word v) = fill-level (word v) h (meaning k v)
+move-level (operand k h) (quoted v) = fill-level (quoted v) h (meaning k v)
+move-level (have r h) open′ = tt
+move-level (have r h) bang = tt
+move-level (have r h) close = leave-level (outer r h) (depth h) (outer-depth r h)
+move-level (have r h) (word w) = join-level (word w) r h (roleOf w)
+move-level (have r h) (quoted v) = tt
 
-  -- a walk keeps within its limit
-  pub walk-within : (L : ℕ) (s : State) (ts : List Token) (s′ : State) → level s ≤ L → walk D L s ts ≡ came s′ → level s′ ≤ L
-  unfolding walk follow step admit
-  walk-within L s [] s′ l e = let q : s ≡ s′ = cc in rw q at l
-  walk-within L s (t ∷ ts) s′ l e = by-move (move D s t) (move-level s t) (ltb (level s) L) (ltb-true _ _) e (λ x. walk-within L x ts s′)
-    where
-      by-move : (m : Move) → Leveled t (level s) m → (b : Bool) → (b ≡ true → level s < L) → follow (admit b m) (λ x. walk D L x ts) (t ∷ ts) ≡ came s′
-          → ((x : State) → level x ≤ L → walk D L x ts ≡ came s′ → level s′ ≤ L) → level s′ ≤ L
-      by-move (takes x) i b g e f = f x (omega arith) e
-      by-move (opens x) (o, i) true g e f = let j : level s < L = g refl in f x (omega arith) e
-      by-move (opens x) i false g e f = no-came _ e refl
-      by-move stuck i b g e f = no-came _ e refl
-      by-move breaks i b g e f = no-came _ e refl
+-- a walk keeps within its limit
+pub walk-within : (L : ℕ) (s : State) (ts : List Token) (s′ : State) → level s ≤ L → walk L s ts ≡ came s′ → level s′ ≤ L
+unfolding walk follow step admit
+walk-within L s [] s′ l e = let q : s ≡ s′ = cc in rw q at l
+walk-within L s (t ∷ ts) s′ l e = by-move (move s t) (move-level s t) (ltb (level s) L) (ltb-true _ _) e (λ x. walk-within L x ts s′)
+  where
+    by-move : (m : Move) → Leveled t (level s) m → (b : Bool) → (b ≡ true → level s < L) → follow (admit b m) (λ x. walk L x ts) (t ∷ ts) ≡ came s′
+        → ((x : State) → level x ≤ L → walk L x ts ≡ came s′ → level s′ ≤ L) → level s′ ≤ L
+    by-move (takes x) i b g e f = f x (omega arith) e
+    by-move (opens x) (o, i) true g e f = let j : level s < L = g refl in f x (omega arith) e
+    by-move (opens x) i false g e f = no-came _ e refl
+    by-move stuck i b g e f = no-came _ e refl
+    by-move breaks i b g e f = no-came _ e refl

@@ -3,35 +3,19 @@ use Prim.Native.Nat.{ℕ, suc, _+_, _-_, _≤_}
 use native.Mathlib.Omega.{arith}
 use mathlib.Core.Path.{_≡_, refl, ap, sym}
 use mathlib.Core.List.{List, [], _∷_, _++_, append-nil, nil≢cons, head-eq-of-cons-eq, tail-eq-of-cons-eq}
-use lib.ListN.{length, drop, length-append}
+use lib.ListN.{length, length-append}
 use lib.Seq.{drop-at}
 use Rattle.program.specs.Readings.{Reading}
-use Rattle.filter.specs.Texts.{levelLimit}
-use Rattle.filter.specs.Tokens.{Token, Placed, placed, Lexes}
+use Rattle.token.specs.Texts.{levelLimit}
+use Rattle.token.specs.Tokens.{Token, Placed, placed, Lexes}
 use Rattle.filter.specs.Grammar.{expression, Reads}
 use Rattle.filter.specs.Levels.{levels}
 use Rattle.filter.specs.Answers.{Leads, bare, Fine, Reaches, Derives, Answers}
 use Rattle.filter.specs.Answers as answers
-use Rattle.filter.proofs.Decided.{Decided}
-use Rattle.filter.proofs.Reader.{Why, bad, broken, deep, ok, refused, read}
+use Rattle.filter.specs.Answering.{numberOf, refusalOf, startOf, placeOf}
+use Rattle.filter.specs.Reader.{Why, bad, ok, refused, read}
 use Rattle.filter.proofs.Complete.{complete}
 use Rattle.filter.proofs.Refusals.{Judged, bad-token, bad-end, bad-operand, too-deep, only}
-
--- the paper's number of a refusal
-unfoldable pub number : Why → ℕ
-number bad = 4
-number broken = 5
-number deep = 6
-
--- the place of the first token, or the end's
-unfoldable pub startOf : ℕ → List Placed → ℕ
-startOf e [] = e
-startOf e (p ∷ ps) = p .place
-
--- the place from which on ts is left of ps; e is the end's
-unfoldable pub placeOf : ℕ → List Placed → List Token → ℕ
-unfolding startOf
-placeOf e ps ts = startOf e (drop (length ps - length ts) ps)
 
 -- tokens of joined lists are joined
 pub bare-append : (ps qs : List Placed) → bare (ps ++ qs) ≡ bare ps ++ bare qs
@@ -103,15 +87,15 @@ reaches text e ps ts t us l q w = by-parts (parted ps ts (t ∷ us) q)
 
 module _ {text : List ℕ} {room : ℕ} (ps : List Placed) (fine : Fine text) (lexed : Lexes 0 text ps) where
   -- the same, with the tokens named
-  judged-answers : {ts us : List Token} {w : Why} → bare ps ≡ ts → Judged levelLimit ts (refused w us) → Answers text room (answers.refused (number w) (placeOf (length text) ps us))
-  unfolding number
+  judged-answers : {ts us : List Token} {w : Why} → bare ps ≡ ts → Judged levelLimit ts (refused w us) → Answers text room (answers.refused (numberOf (refusalOf w)) (placeOf (length text) ps us))
+  unfolding numberOf
   judged-answers e (bad-token ts t us l f g) = answers.bad-token fine (reaches text (length text) ps ts t us lexed e l) f g
   judged-answers e (bad-operand ts t us l f g) = answers.bad-operand fine (reaches text (length text) ps ts t us lexed e l) f g
   judged-answers e (too-deep ts t us l o) = answers.too-deep fine (reaches text (length text) ps ts t us lexed e l) o
   judged-answers e (bad-end l f) = rw (place-end (length text) ps) (answers.bad-end ps fine lexed (rw e l) (rw e f))
 
   -- a refusal of the text's tokens is the text's answer
-  pub refused-answers : {us : List Token} {w : Why} → Judged levelLimit (bare ps) (refused w us) → Answers text room (answers.refused (number w) (placeOf (length text) ps us))
+  pub refused-answers : {us : List Token} {w : Why} → Judged levelLimit (bare ps) (refused w us) → Answers text room (answers.refused (numberOf (refusalOf w)) (placeOf (length text) ps us))
   refused-answers j = judged-answers refl j
 
 -- a reading of the text's tokens is derived for the text
@@ -119,34 +103,34 @@ pub read-derives : {text : List ℕ} {r : Reading} (ps : List Placed) → Lexes 
 read-derives ps l d w = record { tokens = ps; lexed = l; reads = d; within = w }
 
 -- the reader refuses the tokens ps, and that is this number and place; e is the end's place
-pub record Refused (D : Decided) (e : ℕ) (ps : List Placed) (n p : ℕ) : Type 0 where
+pub record Refused (e : ℕ) (ps : List Placed) (n p : ℕ) : Type 0 where
   pub why : Why
   pub left : List Token
-  pub answer : read D levelLimit (bare ps) ≡ refused why left
-  pub numbered : number why ≡ n
+  pub answer : read levelLimit (bare ps) ≡ refused why left
+  pub numbered : numberOf (refusalOf why) ≡ n
   pub there : placeOf e ps left ≡ p
 
-module _ (D : Decided) (text : List ℕ) (room : ℕ) (ps : List Placed) (once : (qs : List Placed) → Lexes 0 text qs → qs ≡ ps) where
+module _ (text : List ℕ) (room : ℕ) (ps : List Placed) (once : (qs : List Placed) → Lexes 0 text qs → qs ≡ ps) where
   -- a token that the text reaches, and that the words judge so whatever follows
   at-token : {ts : List Token} {t : Token} {p : ℕ} {w : Why} → Reaches text ts t p → ((us : List Token) → Judged levelLimit (ts ++ (t ∷ us)) (refused w (t ∷ us)))
-      → Refused D (length text) ps (number w) p
+      → Refused (length text) ps (numberOf (refusalOf w)) p
   unfolding bare
   at-token {ts} {t} {p} {w} x j = by-tokens (once _ (x .lexed)) (x .tokens)
     where
-      by-tokens : x .front ++ (placed p t ∷ x .back) ≡ ps → bare (x .front) ≡ ts → Refused D (length text) ps (number w) p
+      by-tokens : x .front ++ (placed p t ∷ x .back) ≡ ps → bare (x .front) ≡ ts → Refused (length text) ps (numberOf (refusalOf w)) p
       by-tokens f g =
           let h : bare ps ≡ ts ++ (t ∷ bare (x .back)) = rw (← f, ← g) (bare-append (x .front) (placed p t ∷ x .back)) in
           record {
             why = w;
             left = t ∷ bare (x .back);
-            answer = rw h (only D levelLimit (j (bare (x .back))));
+            answer = rw h (only levelLimit (j (bare (x .back))));
             numbered = refl;
             there = rw (← f) (place-token (length text) (x .front) p t (x .back));
           }
 
   -- a text that is answered 4, 5 or 6 is refused so by the reader
-  pub answers-refused : {n p : ℕ} → 4 ≤ n → n ≤ 6 → Answers text room (answers.refused n p) → Refused D (length text) ps n p
-  unfolding number
+  pub answers-refused : {n p : ℕ} → 4 ≤ n → n ≤ 6 → Answers text room (answers.refused n p) → Refused (length text) ps n p
+  unfolding numberOf
   answers-refused i j (answers.too-long l) = absurd (omega arith)
   answers-refused i j (answers.forbidden p l m f g) = absurd (omega arith)
   answers-refused i j (answers.unclosed f u) = absurd (omega arith)
@@ -155,11 +139,11 @@ module _ (D : Decided) (text : List ℕ) (room : ℕ) (ps : List Placed) (once :
   answers-refused i j (answers.too-deep {ts} {t} f x o) = at-token x (λ us. too-deep ts t us (x .leads) o)
   answers-refused i j (answers.bad-end ts f l w n) = by-end (once ts l)
     where
-      by-end : ts ≡ ps → Refused D (length text) ps 4 (length text)
+      by-end : ts ≡ ps → Refused (length text) ps 4 (length text)
       by-end e = record {
         why = bad;
         left = [];
-        answer = rw (← e) (only D levelLimit (bad-end w n));
+        answer = rw (← e) (only levelLimit (bad-end w n));
         numbered = refl;
         there = place-end (length text) ps;
       }
@@ -167,8 +151,8 @@ module _ (D : Decided) (text : List ℕ) (room : ℕ) (ps : List Placed) (once :
   answers-refused i j (answers.no-room f d w l) = absurd (omega arith)
 
   -- a text that is derived within the limit is read so
-  pub derives-read : {r : Reading} → Derives text r → read D levelLimit (bare ps) ≡ ok r
+  pub derives-read : {r : Reading} → Derives text r → read levelLimit (bare ps) ≡ ok r
   derives-read {r} d = by-tokens (once (d .tokens) (d .lexed))
     where
-      by-tokens : d .tokens ≡ ps → read D levelLimit (bare ps) ≡ ok r
-      by-tokens e = rw (← e) (complete D levelLimit (d .reads) (d .within))
+      by-tokens : d .tokens ≡ ps → read levelLimit (bare ps) ≡ ok r
+      by-tokens e = rw (← e) (complete levelLimit (d .reads) (d .within))

@@ -9,19 +9,19 @@ use mathlib.Core.List.{List, [], _∷_, _++_, append-assoc, append-nil, nil≢co
 use lib.Dec.{ltb}
 use borrow.Author.Tests.{ltb-true, ltb-false}
 use Rattle.program.specs.Readings.{Test, Reading}
-use Rattle.filter.specs.Tokens.{Word, Token, bang, word}
-use Rattle.filter.specs.Words.{Name}
+use Rattle.token.specs.Tokens.{Word, Token, bang, word}
 use Rattle.filter.specs.Grammar.{Operand, a-word, a-quoted, factor, expression, Reads}
 use Rattle.filter.specs.Levels.{Open, levels}
 use Rattle.filter.specs.Answers.{Alive, Leads, Stands}
-use Rattle.filter.proofs.Decided.{Decided}
-use Rattle.filter.proofs.Reader.{Hole, depth, State, want, operand, have, level, Why, bad, broken, deep, Move, takes, opens, stuck, breaks, Step, go, stop, came, Answer, ok, refused, fill, admit, follow, finish, conclude, answered, start, move, step, walk, read}
+use Rattle.filter.specs.Reader.{Hole, depth, State, want, operand, have, level, Why, bad, broken, deep, Move, takes, opens, stuck, breaks, Step, go, stop, came, Answer, ok, refused, fill, admit, follow, finish, conclude, answered, start, move, step, walk, read}
 use Rattle.filter.proofs.Walks.{no-came, step-takes, step-opens, walk-go, walk-stop, walk-takes, walk-join, walk-split, wider}
 use Rattle.filter.proofs.Complete.{name-moves, derived-walks, complete}
 use Rattle.filter.proofs.Leveled.{Opener, Leveled, move-level, walk-within}
 use Rattle.filter.proofs.Agree.{levels-within, reached, open-one}
 use Rattle.filter.proofs.Sound.{Moved, Ended, move-at, finish-at, walk-at}
 use Rattle.filter.proofs.Endings.{leads, opened, stands}
+use Rattle.operand.specs.declared.Name.{Name}
+use Rattle.operand.specs.Tests.{meaning}
 
 -- what leads on within a limit is allowed
 pub leads-alive : {L : ℕ} {ts : List Token} → Leads L ts → Alive ts
@@ -55,202 +55,201 @@ unfolding fill
 fill-moves h none e = let z : _≡_ {A = ℕ} 0 1 = cc in omega arith
 fill-moves h (some x) e = let z : _≡_ {A = ℕ} 0 1 = cc in omega arith
 
-module _ (D : Decided) where
-  -- the state after tokens that are allowed, for some limit
-  alive-reached : (L : ℕ) (ts : List Token) → Alive ts → (M : ℕ) × (s : State) × (L ≤ M) × (walk D M start ts ≡ came s)
-  alive-reached L ts a =
-      let M : ℕ = max L (levels (a .reads)) in
-      let (s, e) = reached D M ts (a .more) (a .reads) (omega arith) in
-      (M, s, omega arith, e)
+-- the state after tokens that are allowed, for some limit
+alive-reached : (L : ℕ) (ts : List Token) → Alive ts → (M : ℕ) × (s : State) × (L ≤ M) × (walk M start ts ≡ came s)
+alive-reached L ts a =
+    let M : ℕ = max L (levels (a .reads)) in
+    let (s, e) = reached M ts (a .more) (a .reads) (omega arith) in
+    (M, s, omega arith, e)
 
-  -- the state after tokens that lead on
-  pub leads-reached : (L : ℕ) (ts : List Token) → Leads L ts → (s : State) × (walk D L start ts ≡ came s)
-  leads-reached L ts l = reached D L ts (l .more) (l .reads) (l .within)
+-- the state after tokens that lead on
+pub leads-reached : (L : ℕ) (ts : List Token) → Leads L ts → (s : State) × (walk L start ts ≡ came s)
+leads-reached L ts l = reached L ts (l .more) (l .reads) (l .within)
 
-  -- only where a factor is wanted does `!` go on
-  wanted : (M : ℕ) (s x : State) → walk D M s (bang ∷ []) ≡ came x → (h : Hole factor) × (s ≡ want h)
-  unfolding walk follow step admit move
-  wanted M (want h) x e = (h, refl)
-  wanted M (operand k h) x e = no-came _ e refl
-  wanted M (have r h) x e = no-came _ e refl
+-- only where a factor is wanted does `!` go on
+wanted : (M : ℕ) (s x : State) → walk M s (bang ∷ []) ≡ came x → (h : Hole factor) × (s ≡ want h)
+unfolding walk follow step admit move
+wanted M (want h) x e = (h, refl)
+wanted M (operand k h) x e = no-came _ e refl
+wanted M (have r h) x e = no-came _ e refl
 
-  -- where an operand is wanted, none is stuck
-  operand-unstuck : (k : Name) (h : Hole factor) {t : Token} {v : Word} → Operand t v → move D (operand k h) t ≡ stuck → ⊥
-  unfolding move
-  operand-unstuck k h (a-word {v}) e = fill-moves h (D .meaning k v) e
-  operand-unstuck k h (a-quoted {v}) e = fill-moves h (D .meaning k v) e
+-- where an operand is wanted, none is stuck
+operand-unstuck : (k : Name) (h : Hole factor) {t : Token} {v : Word} → Operand t v → move (operand k h) t ≡ stuck → ⊥
+unfolding move
+operand-unstuck k h (a-word {v}) e = fill-moves h (meaning k v) e
+operand-unstuck k h (a-quoted {v}) e = fill-moves h (meaning k v) e
 
-  module _ (L : ℕ) (ts : List Token) (s : State) (came-to : walk D L start ts ≡ came s) where
-    -- where t stands as an operand, the walk has come to a test's operand
-    operand-there : {t : Token} → Stands ts t → (k : Name) × (h : Hole factor) × (s ≡ operand k h)
-    unfolding walk
-    operand-there st = by-bang (alive-reached L (st .before ++ (bang ∷ [])) (st .begins))
-      where
-        by-want : (M : ℕ) (y : State) → L ≤ M → walk D M start (st .before) ≡ came y → (h : Hole factor) × (y ≡ want h)
-            → (k : Name) × (h : Hole factor) × (s ≡ operand k h)
-        by-want M y l f (h, p) =
-            let a : walk D M start (st .before) ≡ came (want h) = f ∙ ap came p in
-            let b : walk D M start (st .before ++ (word (st .named) ∷ [])) ≡ came (operand (st .test) h) =
-            walk-join D M start (st .before) (word (st .named) ∷ []) (want h) a
-            ∙ walk-takes D M (want h) (operand (st .test) h) (word (st .named)) [] (name-moves D h (st .says)) in
-            let c : walk D M start ts ≡ came (operand (st .test) h) = rw (st .joined) b in
-            let d : walk D M start ts ≡ came s = wider D L M l start ts s came-to in
-            (st .test, h, cc)
-
-        by-split : (M : ℕ) (x : State) → L ≤ M → (y : State) × (walk D M start (st .before) ≡ came y) × (walk D M y (bang ∷ []) ≡ came x)
-            → (k : Name) × (h : Hole factor) × (s ≡ operand k h)
-        by-split M x l (y, f, g) = by-want M y l f (wanted M y x g)
-
-        by-bang : (M : ℕ) × (s : State) × (L ≤ M) × (walk D M start (st .before ++ (bang ∷ [])) ≡ came s) → (k : Name) × (h : Hole factor) × (s ≡ operand k h)
-        by-bang (M, x, l, e) = by-split M x l (walk-split D M start (st .before) (bang ∷ []) x e)
-
-    -- a token that the state refuses, whatever the limit, is allowed by no continuation
-    dead : (t : Token) (w : Why) → ((M : ℕ) → step D M s t ≡ stop w) → Alive (ts ++ (t ∷ [])) → ⊥
-    dead t w f a = by-walk (alive-reached L (ts ++ (t ∷ [])) a)
-      where
-        by-walk : (M : ℕ) × (x : State) × (L ≤ M) × (walk D M start (ts ++ (t ∷ [])) ≡ came x) → ⊥
-        by-walk (M, x, l, e) =
-            no-came (walk D M start (ts ++ (t ∷ []))) e (walk-join D M start ts (t ∷ []) s (wider D L M l start ts s came-to) ∙ walk-stop D M s w t [] (f M))
-
-  -- what a step says of the tokens up to there
-  abbrev Stepped : ℕ → List Token → Token → Step → Type 0
-  Stepped L ts t (go s) = walk D L start (ts ++ (t ∷ [])) ≡ came s
-  Stepped L ts t (stop bad) = (Alive (ts ++ (t ∷ [])) → ⊥) × (Stands ts t → ⊥)
-  Stepped L ts t (stop broken) = (Alive (ts ++ (t ∷ [])) → ⊥) × Stands ts t
-  Stepped L ts t (stop deep) = Open (ts ++ (t ∷ [])) (suc L) × Opener t
-
-  -- every step says so
-  stepped : (L : ℕ) (ts : List Token) (s : State) (t : Token) → walk D L start ts ≡ came s → Stepped L ts t (step D L s t)
-  unfolding step admit walk level depth
-  stepped L ts s t e = by-move (move D s t) refl (move-at D ts s t (walk-at D L ts s e)) (move-level D s t) (ltb (level s) L) refl
+module _ (L : ℕ) (ts : List Token) (s : State) (came-to : walk L start ts ≡ came s) where
+  -- where t stands as an operand, the walk has come to a test's operand
+  operand-there : {t : Token} → Stands ts t → (k : Name) × (h : Hole factor) × (s ≡ operand k h)
+  unfolding walk
+  operand-there st = by-bang (alive-reached L (st .before ++ (bang ∷ [])) (st .begins))
     where
-      came-on : (M : ℕ) (x : State) → L ≤ M → step D M s t ≡ go x → walk D M start (ts ++ (t ∷ [])) ≡ came x
-      came-on M x l q = walk-join D M start ts (t ∷ []) s (wider D L M l start ts s e) ∙ walk-go D M s x t [] q
+      by-want : (M : ℕ) (y : State) → L ≤ M → walk M start (st .before) ≡ came y → (h : Hole factor) × (y ≡ want h)
+          → (k : Name) × (h : Hole factor) × (s ≡ operand k h)
+      by-want M y l f (h, p) =
+          let a : walk M start (st .before) ≡ came (want h) = f ∙ ap came p in
+          let b : walk M start (st .before ++ (word (st .named) ∷ [])) ≡ came (operand (st .test) h) =
+          walk-join M start (st .before) (word (st .named) ∷ []) (want h) a
+          ∙ walk-takes M (want h) (operand (st .test) h) (word (st .named)) [] (name-moves h (st .says)) in
+          let c : walk M start ts ≡ came (operand (st .test) h) = rw (st .joined) b in
+          let d : walk M start ts ≡ came s = wider L M l start ts s came-to in
+          (st .test, h, cc)
 
-      by-move : (m : Move) → move D s t ≡ m → Moved ts t m → Leveled t (level s) m → (b : Bool) → ltb (level s) L ≡ b → Stepped L ts t (admit b m)
-      by-move (takes x) p w v b q = came-on L x (le-refl L) (step-takes D L s x t p)
-      by-move (opens x) p w v true q = came-on L x (le-refl L) (step-opens D L s x t p (ltb-true _ _ q))
-      by-move (opens x) p w (o, v) false q =
-          let i : level s ≤ L = walk-within D L start ts s (omega arith) e in
-          let j : L ≤ level s = ltb-false _ _ q in
-          let k : level x ≡ suc L = omega arith in
-          (rw (← k) (opened D (suc L) (ts ++ (t ∷ [])) x (came-on (suc L) x (omega arith) (step-opens D (suc L) s x t p (omega arith)))), o)
-      by-move stuck p w v b q = (
-        dead L ts s e t bad (λ M. ap (admit (ltb (level s) M)) p),
-        λ st. let (k, h, z) = operand-there L ts s e st in
-            operand-unstuck k h (st .operand) (rw z at p),
-      )
-      by-move breaks p (k, h, v, i, o) u b q = (dead L ts s e t broken (λ M. ap (admit (ltb (level s) M)) p), stands D ts t k h v i o)
+      by-split : (M : ℕ) (x : State) → L ≤ M → (y : State) × (walk M start (st .before) ≡ came y) × (walk M y (bang ∷ []) ≡ came x)
+          → (k : Name) × (h : Hole factor) × (s ≡ operand k h)
+      by-split M x l (y, f, g) = by-want M y l f (wanted M y x g)
 
-  -- ---- the answer is one that the words give
+      by-bang : (M : ℕ) × (s : State) × (L ≤ M) × (walk M start (st .before ++ (bang ∷ [])) ≡ came s) → (k : Name) × (h : Hole factor) × (s ≡ operand k h)
+      by-bang (M, x, l, e) = by-split M x l (walk-split M start (st .before) (bang ∷ []) x e)
 
-  -- the end, and the rest of the tokens, by the state
-  judged-end : (L : ℕ) (ts : List Token) (s : State) → walk D L start ts ≡ came s → Judged L ts (conclude (finish s))
-  unfolding conclude
-  judged-end L ts s e = by-end (finish s) refl (finish-at ts s (walk-at D L ts s e))
+  -- a token that the state refuses, whatever the limit, is allowed by no continuation
+  dead : (t : Token) (w : Why) → ((M : ℕ) → step M s t ≡ stop w) → Alive (ts ++ (t ∷ [])) → ⊥
+  dead t w f a = by-walk (alive-reached L (ts ++ (t ∷ [])) a)
     where
-      none-derived : finish s ≡ none → (r : Reading) → Reads expression ts r → ⊥
-      none-derived p r d =
-          let M : ℕ = max L (levels d) in
-          let (x, f, q) = derived-walks D M d (omega arith) in
-          let g : walk D M start ts ≡ came s = wider D L M (omega arith) start ts s e in
-          let z : _≡_ {A = ℕ} 0 1 = cc in omega arith
+      by-walk : (M : ℕ) × (x : State) × (L ≤ M) × (walk M start (ts ++ (t ∷ [])) ≡ came x) → ⊥
+      by-walk (M, x, l, e) =
+          no-came (walk M start (ts ++ (t ∷ []))) e (walk-join M start ts (t ∷ []) s (wider L M l start ts s came-to) ∙ walk-stop M s w t [] (f M))
 
-      by-end : (o : Option Reading) → finish s ≡ o → Ended ts o → Judged L ts (conclude o)
-      by-end none p w = bad-end (leads D L ts s e) (none-derived p)
-      by-end (some r) p w = reads w (levels-within D L ts s e w)
+-- what a step says of the tokens up to there
+abbrev Stepped : ℕ → List Token → Token → Step → Type 0
+Stepped L ts t (go s) = walk L start (ts ++ (t ∷ [])) ≡ came s
+Stepped L ts t (stop bad) = (Alive (ts ++ (t ∷ [])) → ⊥) × (Stands ts t → ⊥)
+Stepped L ts t (stop broken) = (Alive (ts ++ (t ∷ [])) → ⊥) × Stands ts t
+Stepped L ts t (stop deep) = Open (ts ++ (t ∷ [])) (suc L) × Opener t
 
-  walk-judged : (L : ℕ) (ts : List Token) (s : State) (us : List Token) → walk D L start ts ≡ came s → Judged L (ts ++ us) (answered (walk D L s us))
-  unfolding walk follow answered
-  walk-judged L ts s [] e = rw (append-nil ts) (judged-end L ts s e)
-  walk-judged L ts s (t ∷ us) e = by-step (step D L s t) (stepped L ts s t e) (λ vs x. walk-judged L vs x us)
-    where
-      by-step : (x : Step) → Stepped L ts t x → ((vs : List Token) (y : State) → walk D L start vs ≡ came y → Judged L (vs ++ us) (answered (walk D L y us)))
-          → Judged L (ts ++ (t ∷ us)) (answered (follow x (λ y. walk D L y us) (t ∷ us)))
-      by-step (go y) w f = rw (append-assoc ts (t ∷ []) us) at (f (ts ++ (t ∷ [])) y w)
-      by-step (stop bad) w f = bad-token ts t us (leads D L ts s e) (w .0) (w .1)
-      by-step (stop broken) w f = bad-operand ts t us (leads D L ts s e) (w .0) (w .1)
-      by-step (stop deep) w f = too-deep ts t us (leads D L ts s e) (w .0)
+-- every step says so
+stepped : (L : ℕ) (ts : List Token) (s : State) (t : Token) → walk L start ts ≡ came s → Stepped L ts t (step L s t)
+unfolding step admit walk level depth
+stepped L ts s t e = by-move (move s t) refl (move-at ts s t (walk-at L ts s e)) (move-level s t) (ltb (level s) L) refl
+  where
+    came-on : (M : ℕ) (x : State) → L ≤ M → step M s t ≡ go x → walk M start (ts ++ (t ∷ [])) ≡ came x
+    came-on M x l q = walk-join M start ts (t ∷ []) s (wider L M l start ts s e) ∙ walk-go M s x t [] q
 
-  -- the words give the reader's answer
-  pub judged : (L : ℕ) (ts : List Token) → Judged L ts (read D L ts)
-  unfolding read walk
-  judged L ts = walk-judged L [] start ts refl
+    by-move : (m : Move) → move s t ≡ m → Moved ts t m → Leveled t (level s) m → (b : Bool) → ltb (level s) L ≡ b → Stepped L ts t (admit b m)
+    by-move (takes x) p w v b q = came-on L x (le-refl L) (step-takes L s x t p)
+    by-move (opens x) p w v true q = came-on L x (le-refl L) (step-opens L s x t p (ltb-true _ _ q))
+    by-move (opens x) p w (o, v) false q =
+        let i : level s ≤ L = walk-within L start ts s (omega arith) e in
+        let j : L ≤ level s = ltb-false _ _ q in
+        let k : level x ≡ suc L = omega arith in
+        (rw (← k) (opened (suc L) (ts ++ (t ∷ [])) x (came-on (suc L) x (omega arith) (step-opens (suc L) s x t p (omega arith)))), o)
+    by-move stuck p w v b q = (
+      dead L ts s e t bad (λ M. ap (admit (ltb (level s) M)) p),
+      λ st. let (k, h, z) = operand-there L ts s e st in
+          operand-unstuck k h (st .operand) (rw z at p),
+    )
+    by-move breaks p (k, h, v, i, o) u b q = (dead L ts s e t broken (λ M. ap (admit (ltb (level s) M)) p), stands ts t k h v i o)
 
-  -- ---- and no other
+-- ---- the answer is one that the words give
 
-  -- the reader stops at t for the reason w, where no other outcome of t is possible
-  stops : (L : ℕ) (ts : List Token) (t : Token) (us : List Token) (w : Why) → Leads L ts → ((x : Step) → Stepped L ts t x → x ≡ stop w)
-      → read D L (ts ++ (t ∷ us)) ≡ refused w (t ∷ us)
-  unfolding read answered
-  stops L ts t us w l f = by-walk (leads-reached L ts l)
-    where
-      by-walk : (s : State) × (walk D L start ts ≡ came s) → answered (walk D L start (ts ++ (t ∷ us))) ≡ refused w (t ∷ us)
-      by-walk (s, e) = ap answered (walk-join D L start ts (t ∷ us) s e ∙ walk-stop D L s w t us (f (step D L s t) (stepped L ts s t e)))
+-- the end, and the rest of the tokens, by the state
+judged-end : (L : ℕ) (ts : List Token) (s : State) → walk L start ts ≡ came s → Judged L ts (conclude (finish s))
+unfolding conclude
+judged-end L ts s e = by-end (finish s) refl (finish-at ts s (walk-at L ts s e))
+  where
+    none-derived : finish s ≡ none → (r : Reading) → Reads expression ts r → ⊥
+    none-derived p r d =
+        let M : ℕ = max L (levels d) in
+        let (x, f, q) = derived-walks M d (omega arith) in
+        let g : walk M start ts ≡ came s = wider L M (omega arith) start ts s e in
+        let z : _≡_ {A = ℕ} 0 1 = cc in omega arith
 
-  -- a level too many is open after no tokens that are walked within the limit
-  pub not-deeper : (L : ℕ) (ts : List Token) (s : State) → walk D L start ts ≡ came s → Open ts (suc L) → ⊥
-  unfolding level depth
-  not-deeper L ts s e o =
-      let i : level s ≤ L = walk-within D L start ts s (omega arith) e in
-      let j : suc L ≡ level s = open-one D o (opened D L ts s e) in
-      omega arith
+    by-end : (o : Option Reading) → finish s ≡ o → Ended ts o → Judged L ts (conclude o)
+    by-end none p w = bad-end (leads L ts s e) (none-derived p)
+    by-end (some r) p w = reads w (levels-within L ts s e w)
 
-  -- what the words give is the reader's answer
-  pub only : (L : ℕ) {ts : List Token} {a : Answer} → Judged L ts a → read D L ts ≡ a
-  unfolding read answered conclude
-  only L (reads d l) = complete D L d l
-  only L (bad-token ts t us l no-more no-operand) = stops L ts t us bad l by-step
-    where
-      by-step : (x : Step) → Stepped L ts t x → x ≡ stop bad
-      by-step (go s) w = absurd (no-more (leads-alive (leads D L _ s w)))
-      by-step (stop bad) w = refl
-      by-step (stop broken) w = absurd (no-operand (w .1))
-      by-step (stop deep) w = absurd (no-more (open-alive (w .0)))
-  only L (bad-operand ts t us l no-more st) = stops L ts t us broken l by-step
-    where
-      by-step : (x : Step) → Stepped L ts t x → x ≡ stop broken
-      by-step (go s) w = absurd (no-more (leads-alive (leads D L _ s w)))
-      by-step (stop bad) w = absurd (w .1 st)
-      by-step (stop broken) w = refl
-      by-step (stop deep) w = absurd (no-more (open-alive (w .0)))
-  only L (too-deep ts t us l o) = stops L ts t us deep l by-step
-    where
-      by-step : (x : Step) → Stepped L ts t x → x ≡ stop deep
-      by-step (go s) w = absurd (not-deeper L (ts ++ (t ∷ [])) s w o)
-      by-step (stop bad) w = absurd (w .0 (open-alive o))
-      by-step (stop broken) w = absurd (w .0 (open-alive o))
-      by-step (stop deep) w = refl
-  only L (bad-end {ts} l none-of) = by-walk (leads-reached L ts l)
-    where
-      by-end : (o : Option Reading) → Ended ts o → conclude o ≡ refused bad []
-      by-end none w = refl
-      by-end (some r) w = absurd (none-of r w)
+walk-judged : (L : ℕ) (ts : List Token) (s : State) (us : List Token) → walk L start ts ≡ came s → Judged L (ts ++ us) (answered (walk L s us))
+unfolding walk follow answered
+walk-judged L ts s [] e = rw (append-nil ts) (judged-end L ts s e)
+walk-judged L ts s (t ∷ us) e = by-step (step L s t) (stepped L ts s t e) (λ vs x. walk-judged L vs x us)
+  where
+    by-step : (x : Step) → Stepped L ts t x → ((vs : List Token) (y : State) → walk L start vs ≡ came y → Judged L (vs ++ us) (answered (walk L y us)))
+        → Judged L (ts ++ (t ∷ us)) (answered (follow x (λ y. walk L y us) (t ∷ us)))
+    by-step (go y) w f = rw (append-assoc ts (t ∷ []) us) at (f (ts ++ (t ∷ [])) y w)
+    by-step (stop bad) w f = bad-token ts t us (leads L ts s e) (w .0) (w .1)
+    by-step (stop broken) w f = bad-operand ts t us (leads L ts s e) (w .0) (w .1)
+    by-step (stop deep) w f = too-deep ts t us (leads L ts s e) (w .0)
 
-      by-walk : (s : State) × (walk D L start ts ≡ came s) → answered (walk D L start ts) ≡ refused bad []
-      by-walk (s, e) = ap answered e ∙ by-end (finish s) (finish-at ts s (walk-at D L ts s e))
+-- the words give the reader's answer
+pub judged : (L : ℕ) (ts : List Token) → Judged L ts (read L ts)
+unfolding read walk
+judged L ts = walk-judged L [] start ts refl
 
-  -- ---- what is refused is the first
+-- ---- and no other
 
-  -- tokens after which a level too many is open don't lead on
-  pub deep-ends : {L : ℕ} {ts : List Token} → Open ts (suc L) → Leads L ts → ⊥
-  deep-ends {L} {ts} o l = by-walk (leads-reached L ts l)
-    where
-      by-walk : (s : State) × (walk D L start ts ≡ came s) → ⊥
-      by-walk (s, e) = not-deeper L ts s e o
+-- the reader stops at t for the reason w, where no other outcome of t is possible
+stops : (L : ℕ) (ts : List Token) (t : Token) (us : List Token) (w : Why) → Leads L ts → ((x : Step) → Stepped L ts t x → x ≡ stop w)
+    → read L (ts ++ (t ∷ us)) ≡ refused w (t ∷ us)
+unfolding read answered
+stops L ts t us w l f = by-walk (leads-reached L ts l)
+  where
+    by-walk : (s : State) × (walk L start ts ≡ came s) → answered (walk L start (ts ++ (t ∷ us))) ≡ refused w (t ∷ us)
+    by-walk (s, e) = ap answered (walk-join L start ts (t ∷ us) s e ∙ walk-stop L s w t us (f (step L s t) (stepped L ts s t e)))
 
-  -- what opens a level too many is `(` or `!`
-  pub deep-opener : {L : ℕ} {ts : List Token} {t : Token} → Leads L ts → Open (ts ++ (t ∷ [])) (suc L) → Opener t
-  deep-opener {L} {ts} {t} l o = by-walk (leads-reached L ts l)
-    where
-      by-step : (x : Step) → Stepped L ts t x → Opener t
-      by-step (go s) w = absurd (not-deeper L (ts ++ (t ∷ [])) s w o)
-      by-step (stop bad) w = absurd (w .0 (open-alive o))
-      by-step (stop broken) w = absurd (w .0 (open-alive o))
-      by-step (stop deep) w = w .1
+-- a level too many is open after no tokens that are walked within the limit
+pub not-deeper : (L : ℕ) (ts : List Token) (s : State) → walk L start ts ≡ came s → Open ts (suc L) → ⊥
+unfolding level depth
+not-deeper L ts s e o =
+    let i : level s ≤ L = walk-within L start ts s (omega arith) e in
+    let j : suc L ≡ level s = open-one o (opened L ts s e) in
+    omega arith
 
-      by-walk : (s : State) × (walk D L start ts ≡ came s) → Opener t
-      by-walk (s, e) = by-step (step D L s t) (stepped L ts s t e)
+-- what the words give is the reader's answer
+pub only : (L : ℕ) {ts : List Token} {a : Answer} → Judged L ts a → read L ts ≡ a
+unfolding read answered conclude
+only L (reads d l) = complete L d l
+only L (bad-token ts t us l no-more no-operand) = stops L ts t us bad l by-step
+  where
+    by-step : (x : Step) → Stepped L ts t x → x ≡ stop bad
+    by-step (go s) w = absurd (no-more (leads-alive (leads L _ s w)))
+    by-step (stop bad) w = refl
+    by-step (stop broken) w = absurd (no-operand (w .1))
+    by-step (stop deep) w = absurd (no-more (open-alive (w .0)))
+only L (bad-operand ts t us l no-more st) = stops L ts t us broken l by-step
+  where
+    by-step : (x : Step) → Stepped L ts t x → x ≡ stop broken
+    by-step (go s) w = absurd (no-more (leads-alive (leads L _ s w)))
+    by-step (stop bad) w = absurd (w .1 st)
+    by-step (stop broken) w = refl
+    by-step (stop deep) w = absurd (no-more (open-alive (w .0)))
+only L (too-deep ts t us l o) = stops L ts t us deep l by-step
+  where
+    by-step : (x : Step) → Stepped L ts t x → x ≡ stop deep
+    by-step (go s) w = absurd (not-deeper L (ts ++ (t ∷ [])) s w o)
+    by-step (stop bad) w = absurd (w .0 (open-alive o))
+    by-step (stop broken) w = absurd (w .0 (open-alive o))
+    by-step (stop deep) w = refl
+only L (bad-end {ts} l none-of) = by-walk (leads-reached L ts l)
+  where
+    by-end : (o : Option Reading) → Ended ts o → conclude o ≡ refused bad []
+    by-end none w = refl
+    by-end (some r) w = absurd (none-of r w)
+
+    by-walk : (s : State) × (walk L start ts ≡ came s) → answered (walk L start ts) ≡ refused bad []
+    by-walk (s, e) = ap answered e ∙ by-end (finish s) (finish-at ts s (walk-at L ts s e))
+
+-- ---- what is refused is the first
+
+-- tokens after which a level too many is open don't lead on
+pub deep-ends : {L : ℕ} {ts : List Token} → Open ts (suc L) → Leads L ts → ⊥
+deep-ends {L} {ts} o l = by-walk (leads-reached L ts l)
+  where
+    by-walk : (s : State) × (walk L start ts ≡ came s) → ⊥
+    by-walk (s, e) = not-deeper L ts s e o
+
+-- what opens a level too many is `(` or `!`
+pub deep-opener : {L : ℕ} {ts : List Token} {t : Token} → Leads L ts → Open (ts ++ (t ∷ [])) (suc L) → Opener t
+deep-opener {L} {ts} {t} l o = by-walk (leads-reached L ts l)
+  where
+    by-step : (x : Step) → Stepped L ts t x → Opener t
+    by-step (go s) w = absurd (not-deeper L (ts ++ (t ∷ [])) s w o)
+    by-step (stop bad) w = absurd (w .0 (open-alive o))
+    by-step (stop broken) w = absurd (w .0 (open-alive o))
+    by-step (stop deep) w = w .1
+
+    by-walk : (s : State) × (walk L start ts ≡ came s) → Opener t
+    by-walk (s, e) = by-step (step L s t) (stepped L ts s t e)
 
 -- the first token that is refused, or the end: each beginning before it leads on, and none with it
 pub record First (L : ℕ) (ts us : List Token) : Type 0 where
@@ -269,11 +268,11 @@ first-token {L} ts t us l f = record {
 }
 
 -- what is refused is the first that is
-pub refused-first : Decided → {L : ℕ} {ts us : List Token} {w : Why} → Judged L ts (refused w us) → First L ts us
-refused-first D (bad-token ts t us l f g) = first-token ts t us l (λ m. f (leads-alive m))
-refused-first D (bad-operand ts t us l f g) = first-token ts t us l (λ m. f (leads-alive m))
-refused-first D (too-deep ts t us l o) = first-token ts t us l (deep-ends D o)
-refused-first D (bad-end {ts} l f) = record {
+pub refused-first : {L : ℕ} {ts us : List Token} {w : Why} → Judged L ts (refused w us) → First L ts us
+refused-first (bad-token ts t us l f g) = first-token ts t us l (λ m. f (leads-alive m))
+refused-first (bad-operand ts t us l f g) = first-token ts t us l (λ m. f (leads-alive m))
+refused-first (too-deep ts t us l o) = first-token ts t us l (deep-ends o)
+refused-first (bad-end {ts} l f) = record {
   front = ts;
   joined = sym (append-nil ts);
   before = λ xs ys e. earlier xs ys (rw e at l);

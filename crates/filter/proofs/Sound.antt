@@ -6,14 +6,19 @@ use mathlib.Core.Option.{Option, none, some}
 use mathlib.Core.List.{List, [], _∷_, _++_, append-assoc, append-nil}
 use lib.Dec.{ltb}
 use Rattle.program.specs.Readings.{Test, and, or, Reading}
-use Rattle.filter.specs.Tokens.{Word, Token, open′, close, bang, word, quoted}
-use Rattle.filter.specs.Words.{Name, Role, joins, flag, name, Says, Means}
+use Rattle.token.specs.Tokens.{Word, Token, open′, close, bang, word, quoted}
+use Rattle.filter.specs.Words.{Role, joins, flag, name, Says}
 use Rattle.filter.specs.Grammar.{Operand, a-word, a-quoted, Part, expression, conjunction, factor, Reads, flagged, tested, negated, grouped, single, anded, lone, ored}
 use Rattle.filter.specs.Levels.{levels}
-use Rattle.filter.proofs.Decided.{Decided}
 use Rattle.filter.proofs.Walks.{no-ok}
-use Rattle.filter.proofs.Reader.{Hole, whole, grouping, first, oring, head, anding, negating, State, want, operand, have, level, Move, takes, opens, stuck, breaks, Way, came, stopped, ok, settle, outer, again, leave, end, begin, fill, join, admit, follow, finish, conclude, answered, start, move, step, walk, read}
+use Rattle.filter.specs.Reader.{Hole, whole, grouping, first, oring, head, anding, negating, State, want, operand, have, level, Move, takes, opens, stuck, breaks, Way, came, stopped, ok, settle, outer, again, leave, end, begin, fill, join, admit, follow, finish, conclude, answered, start, move, step, walk, read}
 use Rattle.filter.proofs.Agree.{levels-within}
+use Rattle.operand.specs.declared.Name.{Name}
+use Rattle.operand.specs.Tests.{StandsFor}
+use Rattle.operand.specs.Tests.{meaning}
+use Rattle.operand.proofs.Meanings.{meaning-sound}
+use Rattle.filter.specs.Words.{roleOf}
+use Rattle.filter.proofs.Roles.{role-said}
 
 -- these tokens lead to h
 pub data Before : (p : Part) → List Token → Hole p → Type 0 where
@@ -97,7 +102,7 @@ begin-at ts h w b (some (joins o)) q = tt
 begin-at ts h w b none q = tt
 
 fill-at : (ts : List Token) (k : Name) (h : Hole factor) (o : Token) (v : Word) → Operand o v → At ts (operand k h)
-    → (x : Option Test) → ((y : Test) → x ≡ some y → Means k v y) → Moved ts o (fill h x)
+    → (x : Option Test) → ((y : Test) → x ≡ some y → StandsFor k v y) → Moved ts o (fill h x)
 unfolding fill
 fill-at ts k h o v a i none m = (k, h, v, i, a)
 fill-at ts k h o v a (us, w, e, q, b) (some x) m = rw (e, append-assoc us (word w ∷ []) (o ∷ [])) (settle-at b (tested q a (m x refl)))
@@ -113,64 +118,63 @@ join-at ts r h w a (some (flag x)) q = tt
 join-at ts r h w a (some (name k)) q = tt
 join-at ts r h w a none q = tt
 
-module _ (D : Decided) where
-  -- what a token leads to, by its move
-  pub move-at : (ts : List Token) (s : State) (t : Token) → At ts s → Moved ts t (move D s t)
-  unfolding move
-  move-at ts (want h) open′ a = at-head (at-first (at-group a))
-  move-at ts (want h) bang a = at-not a
-  move-at ts (want h) close a = tt
-  move-at ts (want h) (word w) a = begin-at ts h w a (D .role w) (λ y. D .says w y .1)
-  move-at ts (want h) (quoted v) a = tt
-  move-at ts (operand k h) open′ a = tt
-  move-at ts (operand k h) bang a = tt
-  move-at ts (operand k h) close a = tt
-  move-at ts (operand k h) (word v) a = fill-at ts k h (word v) v a-word a (D .meaning k v) (λ y. D .means k v y .1)
-  move-at ts (operand k h) (quoted v) a = fill-at ts k h (quoted v) v a-quoted a (D .meaning k v) (λ y. D .means k v y .1)
-  move-at ts (have r h) open′ a = tt
-  move-at ts (have r h) bang a = tt
-  move-at ts (have r h) close a = leave-at (outer r h) (outer-at a)
-  move-at ts (have r h) (word w) a = join-at ts r h w a (D .role w) (λ y. D .says w y .1)
-  move-at ts (have r h) (quoted v) a = tt
+-- what a token leads to, by its move
+pub move-at : (ts : List Token) (s : State) (t : Token) → At ts s → Moved ts t (move s t)
+unfolding move
+move-at ts (want h) open′ a = at-head (at-first (at-group a))
+move-at ts (want h) bang a = at-not a
+move-at ts (want h) close a = tt
+move-at ts (want h) (word w) a = begin-at ts h w a (roleOf w) (λ y e. role-said w e)
+move-at ts (want h) (quoted v) a = tt
+move-at ts (operand k h) open′ a = tt
+move-at ts (operand k h) bang a = tt
+move-at ts (operand k h) close a = tt
+move-at ts (operand k h) (word v) a = fill-at ts k h (word v) v a-word a (meaning k v) (λ y e. meaning-sound k v e)
+move-at ts (operand k h) (quoted v) a = fill-at ts k h (quoted v) v a-quoted a (meaning k v) (λ y e. meaning-sound k v e)
+move-at ts (have r h) open′ a = tt
+move-at ts (have r h) bang a = tt
+move-at ts (have r h) close a = leave-at (outer r h) (outer-at a)
+move-at ts (have r h) (word w) a = join-at ts r h w a (roleOf w) (λ y e. role-said w e)
+move-at ts (have r h) (quoted v) a = tt
 
-  module _ (L : ℕ) where
-    -- the tokens of a walk lead to the state that it comes to: from a state on, and from the start
-    pub walk-moves : (ts : List Token) (s : State) (us : List Token) → At ts s → Came (ts ++ us) (walk D L s us)
-    unfolding walk follow step admit
-    walk-moves ts s [] a = rw (append-nil ts) a
-    walk-moves ts s (t ∷ us) a = by-move (move D s t) (move-at ts s t a) (ltb (level s) L) (λ vs x. walk-moves vs x us)
-      where
-        by-move : (m : Move) → Moved ts t m → (b : Bool) → ((vs : List Token) (x : State) → At vs x → Came (vs ++ us) (walk D L x us))
-            → Came (ts ++ (t ∷ us)) (follow (admit b m) (λ x. walk D L x us) (t ∷ us))
-        by-move (takes x) w b f = rw (append-assoc ts (t ∷ []) us) at (f (ts ++ (t ∷ [])) x w)
-        by-move (opens x) w true f = rw (append-assoc ts (t ∷ []) us) at (f (ts ++ (t ∷ [])) x w)
-        by-move (opens x) w false f = tt
-        by-move stuck w b f = tt
-        by-move breaks w b f = tt
+module _ (L : ℕ) where
+  -- the tokens of a walk lead to the state that it comes to: from a state on, and from the start
+  pub walk-moves : (ts : List Token) (s : State) (us : List Token) → At ts s → Came (ts ++ us) (walk L s us)
+  unfolding walk follow step admit
+  walk-moves ts s [] a = rw (append-nil ts) a
+  walk-moves ts s (t ∷ us) a = by-move (move s t) (move-at ts s t a) (ltb (level s) L) (λ vs x. walk-moves vs x us)
+    where
+      by-move : (m : Move) → Moved ts t m → (b : Bool) → ((vs : List Token) (x : State) → At vs x → Came (vs ++ us) (walk L x us))
+          → Came (ts ++ (t ∷ us)) (follow (admit b m) (λ x. walk L x us) (t ∷ us))
+      by-move (takes x) w b f = rw (append-assoc ts (t ∷ []) us) at (f (ts ++ (t ∷ [])) x w)
+      by-move (opens x) w true f = rw (append-assoc ts (t ∷ []) us) at (f (ts ++ (t ∷ [])) x w)
+      by-move (opens x) w false f = tt
+      by-move stuck w b f = tt
+      by-move breaks w b f = tt
 
-    pub walk-at : (ts : List Token) (s : State) → walk D L start ts ≡ came s → At ts s
-    walk-at ts s e = rw e at (walk-moves [] start ts at-start)
+  pub walk-at : (ts : List Token) (s : State) → walk L start ts ≡ came s → At ts s
+  walk-at ts s e = rw e at (walk-moves [] start ts at-start)
 
-    -- where a walk comes to its end, what is read is derived
-    pub ended : (ts : List Token) (s : State) {r : Reading} → walk D L start ts ≡ came s → finish s ≡ some r → Reads expression ts r
-    ended ts s e f = rw f at (finish-at ts s (walk-at ts s e))
+  -- where a walk comes to its end, what is read is derived
+  pub ended : (ts : List Token) (s : State) {r : Reading} → walk L start ts ≡ came s → finish s ≡ some r → Reads expression ts r
+  ended ts s e f = rw f at (finish-at ts s (walk-at ts s e))
 
-    -- what is read has been walked
-    ok-walks : (ts : List Token) (r : Reading) → read D L ts ≡ ok r → (s : State) × (walk D L start ts ≡ came s) × (finish s ≡ some r)
-    unfolding read answered conclude
-    ok-walks ts r e = by-way (walk D L start ts) refl e
-      where
-        by-end : (o : Option Reading) → conclude o ≡ ok r → o ≡ some r
-        by-end none e = no-ok (conclude none) e refl
-        by-end (some r′) e = cc
+  -- what is read has been walked
+  ok-walks : (ts : List Token) (r : Reading) → read L ts ≡ ok r → (s : State) × (walk L start ts ≡ came s) × (finish s ≡ some r)
+  unfolding read answered conclude
+  ok-walks ts r e = by-way (walk L start ts) refl e
+    where
+      by-end : (o : Option Reading) → conclude o ≡ ok r → o ≡ some r
+      by-end none e = no-ok (conclude none) e refl
+      by-end (some r′) e = cc
 
-        by-way : (w : Way) → walk D L start ts ≡ w → answered w ≡ ok r → (s : State) × (walk D L start ts ≡ came s) × (finish s ≡ some r)
-        by-way (came s) p q = (s, p, by-end (finish s) q)
-        by-way (stopped y us) p q = no-ok (answered (stopped y us)) q refl
+      by-way : (w : Way) → walk L start ts ≡ w → answered w ≡ ok r → (s : State) × (walk L start ts ≡ came s) × (finish s ≡ some r)
+      by-way (came s) p q = (s, p, by-end (finish s) q)
+      by-way (stopped y us) p q = no-ok (answered (stopped y us)) q refl
 
-    -- what is read is derived so, within the limit
-    pub sound : (ts : List Token) {r : Reading} → read D L ts ≡ ok r → (d : Reads expression ts r) × (levels d ≤ L)
-    sound ts {r} e = by-walk (ok-walks ts r e)
-      where
-        by-walk : (s : State) × (walk D L start ts ≡ came s) × (finish s ≡ some r) → (d : Reads expression ts r) × (levels d ≤ L)
-        by-walk (s, p, q) = (ended ts s p q, levels-within D L ts s p (ended ts s p q))
+  -- what is read is derived so, within the limit
+  pub sound : (ts : List Token) {r : Reading} → read L ts ≡ ok r → (d : Reads expression ts r) × (levels d ≤ L)
+  sound ts {r} e = by-walk (ok-walks ts r e)
+    where
+      by-walk : (s : State) × (walk L start ts ≡ came s) × (finish s ≡ some r) → (d : Reads expression ts r) × (levels d ≤ L)
+      by-walk (s, p, q) = (ended ts s p q, levels-within L ts s p (ended ts s p q))

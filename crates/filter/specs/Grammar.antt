@@ -3,8 +3,10 @@ use Prim.Native.Nat.{ℕ, suc, max}
 use mathlib.Core.Path.{_≡_}
 use mathlib.Core.List.{List, [], _∷_, _++_}
 use Rattle.program.specs.Readings.{Test, Operator, and, or, Reading, test, neg, joint}
-use Rattle.filter.specs.Tokens.{Word, Token, open′, close, bang, word, quoted}
-use Rattle.filter.specs.Words.{Name, Role, joins, flag, name, Says, Means}
+use Rattle.token.specs.Tokens.{Word, Token, open′, close, bang, word, quoted}
+use Rattle.filter.specs.Words.{Role, joins, flag, name, Says}
+use Rattle.operand.specs.declared.Name.{Name}
+use Rattle.operand.specs.Tests.{StandsFor}
 
 -- an operand is any one word or quoted token; these are its bytes
 pub data Operand : Token → Word → Type 0 where
@@ -20,7 +22,7 @@ pub data Part : Type 0 where
 -- factor: `!` factor, `(` expression `)`, or a test
 pub data Reads : Part → List Token → Reading → Type 0 where
   flagged : {w : Word} {x : Test} → Says w (flag x) → Reads factor (word w ∷ []) (test x)
-  tested : {w v : Word} {k : Name} {x : Test} {o : Token} → Says w (name k) → Operand o v → Means k v x → Reads factor (word w ∷ o ∷ []) (test x)
+  tested : {w v : Word} {k : Name} {x : Test} {o : Token} → Says w (name k) → Operand o v → StandsFor k v x → Reads factor (word w ∷ o ∷ []) (test x)
   negated : {ts : List Token} {r : Reading} → Reads factor ts r → Reads factor (bang ∷ ts) (neg r)
   grouped : {ts : List Token} {r : Reading} → Reads expression ts r → Reads factor (open′ ∷ (ts ++ (close ∷ []))) r
   single : {ts : List Token} {r : Reading} → Reads factor ts r → Reads conjunction ts r

@@ -6,7 +6,7 @@ use lib.ListN.{length}
 use lib.Dec.{leb, ltb}
 use Rattle.octets.specs.Choice.{pick}
 use Rattle.program.specs.Readings.{Reading}
-use Rattle.filter.specs.Tokens.{Token}
+use Rattle.token.specs.Tokens.{Token}
 use Rattle.filter.specs.Grammar.{Part, expression, Reads, flagged, tested, negated, grouped, single, anded, lone, ored}
 
 -- the `(` and `!` among the first n tokens whose factor goes on after them

@@ -1,8 +1,8 @@
-pub mod Texts
-pub mod Tokens
-pub mod Decimals
-pub mod Operands
 pub mod Words
 pub mod Grammar
 pub mod Levels
 pub mod Answers
+pub mod Given
+pub mod Reader
+pub mod Answering
+pub mod Parsing

@@ -1,19 +1,14 @@
--- The words of the language, and what each test's operand means.
+-- The words of the language.
 use Prim.Native.Nat.{ℕ, _<_}
 use mathlib.Core.Path.{_≡_}
+use mathlib.Core.Option.{Option}
 use mathlib.Core.List.{List, [], _∷_}
 use lib.ListN.{length, getD}
-use Rattle.network.specs.declared.Network.{Network}
-use Rattle.network.specs.declared.Relation.{Relation}
 use Rattle.network.specs.declared.Relation.the-variants.{Exact, Supernet, Subnet, Related}
-use Rattle.aspath.specs.Patterns.{Pattern}
-use Rattle.program.specs.Readings.{Peer, Side, Comparison, Test, typeIs, hasAttribute, pathMatches, peerIs, hasLoop, hasBogon, networkIs, timeIs, Operator, and, or}
-use Rattle.filter.specs.Operands.{typeNames, attributeNames, CodeOperand, NetworkOperand, PeerOperand, PatternOperand, TimeOperand}
-
--- the tests that have an operand
-pub data Name : Type 0 where
-  typeName attributeName pathName peerName timeName : Name
-  networkName : Relation → Name
+use Rattle.program.specs.Readings.{Test, hasLoop, hasBogon, Operator, and, or}
+use Rattle.operand.specs.declared.Name.{Name}
+use Rattle.operand.specs.declared.Name.the-variants.{MessageType as typeName, Attribute as attributeName, Path as pathName, Peer as peerName, Time as timeName, Network as networkName}
+use Rattle.operand.specs.Codes.{found}
 
 -- what a word says where a factor or a joint may stand
 pub data Role : Type 0 where
@@ -52,11 +47,14 @@ pub record Says (w : List ℕ) (r : Role) : Type 0 where
   pub word : getD vocabulary row (entry [] (joins and)) .word ≡ w
   pub role : getD vocabulary row (entry [] (joins and)) .role ≡ r
 
--- what a test with an operand of these bytes is, if the operand keeps the test's rule
-pub data Means : Name → List ℕ → Test → Type 0 where
-  type : {bs : List ℕ} {c : ℕ} → CodeOperand typeNames bs c → Means typeName bs (typeIs c)
-  attribute : {bs : List ℕ} {c : ℕ} → CodeOperand attributeNames bs c → Means attributeName bs (hasAttribute c)
-  path : {bs : List ℕ} {p : Pattern} → PatternOperand bs p → Means pathName bs (pathMatches p)
-  peer : {bs : List ℕ} {p : Peer} → PeerOperand bs p → Means peerName bs (peerIs p)
-  network : {bs : List ℕ} {r : Relation} {s : Side} {n : Network} → NetworkOperand bs s n → Means (networkName r) bs (networkIs r n s)
-  time : {bs : List ℕ} {c : Comparison} {s m : ℕ} → TimeOperand bs c s m → Means timeName bs (timeIs c s m)
+-- ---- what the code computes
+
+abbrev pub wordOf : Entry → List ℕ
+wordOf e = e .word
+
+abbrev pub saidBy : Entry → Role
+saidBy e = e .role
+
+-- what a word says
+unfoldable pub roleOf : List ℕ → Option Role
+roleOf w = found wordOf saidBy vocabulary w

@@ -1,1 +1,375 @@
-// The filter language. Its definitions stand in specs/, the laws about them in proofs/; the functions that compile a text follow.
+// Filters: from a text to its program.
+ghost use mathlib.Core.Path.{_≡_};
+ghost use mathlib.Core.Bool.{false};
+ghost use mathlib.Core.Option.{some};
+ghost use Prim.Native.Nat.{_≤_, _<_, _+_};
+ghost use lib.ListN.{length};
+ghost use Rattle.token.specs.Next.{Closed, tokenIn};
+ghost use Rattle.filter.specs.Words.{wordOf, saidBy, roleOf, name as a-name};
+ghost use Rattle.filter.specs.Grammar.{expression as an-expression, conjunction as a-conjunction, factor as a-factor};
+ghost use Rattle.filter.specs.Answering.{numberOf, answer, valueOf, saidOf, bufferOf};
+ghost use Rattle.program.specs.Layout.{fields};
+ghost use Rattle.filter.specs.Parsing.{roleSaid, operandRows, roleIn, operandKind, opensLevel, Ready, Says, TestSays, Whole};
+ghost use Rattle.operand.specs.Codes.{found};
+use network::Relation;
+use operand::Meant;
+use operand::Name;
+use program::Fields;
+use token::Kind;
+use token::Lexeme;
+
+// Why a text isn't compiled, in the order of the table.
+pub enum Refusal {
+    Length,
+    Byte,
+    Quote,
+    Token,
+    Operand,
+    Level,
+    Weight,
+    Room,
+}
+
+// The bytes of the program; or the refusal and its place.
+pub enum Compiled {
+    Program(usize),
+    Refused(Refusal, usize),
+}
+
+// What a word says.
+enum Role {
+    And,
+    Or,
+    Loops,
+    Bogons,
+    Named(Name),
+    Unknown,
+}
+
+// The token behind a part, and where its records end in the program; or why it is refused, and where.
+enum Parsed {
+    Upto { next: Lexeme, n: usize },
+    Refused { refusal: Refusal, place: usize },
+}
+
+// The number of a refusal.
+pub fn number_of(refusal: Refusal) -> u32
+    ensures { λ r. ⌜ r ≡ numberOf refusal ⌝ }
+{
+    match refusal {
+        Refusal::Length => 1,
+        Refusal::Byte => 2,
+        Refusal::Quote => 3,
+        Refusal::Token => 4,
+        Refusal::Operand => 5,
+        Refusal::Level => 6,
+        Refusal::Weight => 7,
+        Refusal::Room => 8,
+    }
+}
+
+// What a word says if it names a test that has an operand.
+fn test_name(word: &[u8]) -> Role
+    ensures { λ r. ⌜ roleSaid r ≡ found wordOf saidBy operandRows (now (word .entry)) ⌝ }
+{
+    if operand::same(word, b"-type") {
+        return Role::Named(Name::MessageType);
+    }
+    if operand::same(word, b"-attr") {
+        return Role::Named(Name::Attribute);
+    }
+    if operand::same(word, b"-aspath") {
+        return Role::Named(Name::Path);
+    }
+    if operand::same(word, b"-peer") {
+        return Role::Named(Name::Peer);
+    }
+    if operand::same(word, b"-exact") {
+        return Role::Named(Name::Network(Relation::Exact));
+    }
+    if operand::same(word, b"-supernet") {
+        return Role::Named(Name::Network(Relation::Supernet));
+    }
+    if operand::same(word, b"-subnet") {
+        return Role::Named(Name::Network(Relation::Subnet));
+    }
+    if operand::same(word, b"-related") {
+        return Role::Named(Name::Network(Relation::Related));
+    }
+    if operand::same(word, b"-timestamp") {
+        return Role::Named(Name::Time);
+    }
+    Role::Unknown
+}
+
+fn said(word: &[u8]) -> Role
+    ensures { λ r. ⌜ roleSaid r ≡ roleOf (now (word .entry)) ⌝ }
+{
+    if operand::same(word, b"-and") {
+        return Role::And;
+    }
+    if operand::same(word, b"-or") {
+        return Role::Or;
+    }
+    if operand::same(word, b"-loops") {
+        return Role::Loops;
+    }
+    if operand::same(word, b"-bogon-asn") {
+        return Role::Bogons;
+    }
+    test_name(word)
+}
+
+// What a token says: nothing unless it is a word.
+fn role_of(text: &[u8], t: Lexeme) -> Role
+    ensures { λ r. ⌜ roleSaid r ≡ roleIn (tokenIn (now (text .entry)) t) ⌝ }
+{
+    let kind = t.kind;
+    let Kind::Word = kind else {
+        return Role::Unknown;
+    };
+    said(token::bytes(text, t))
+}
+
+// A record with no numbers but its kind and count.
+fn plain(kind: u32, count: u32) -> Fields
+    ensures { λ r. ⌜ r ≡ fields kind 0 count 0 0 ⌝ }
+{
+    Fields {
+        kind,
+        variant: 0,
+        count,
+        a: 0,
+        b: 0,
+    }
+}
+
+// Whether a token may be an operand.
+fn is_operand(kind: Kind) -> bool
+    ensures { λ r. ⌜ r ≡ operandKind kind ⌝ }
+{
+    match kind {
+        Kind::End => false,
+        Kind::Open => false,
+        Kind::Close => false,
+        Kind::Bang => false,
+        Kind::Word => true,
+        Kind::Quoted => true,
+        Kind::Unclosed => false,
+    }
+}
+
+// A test that has an operand, which is the token behind its name.
+fn named(text: &[u8], name: Name, word: Lexeme, out: &mut [u8], n: usize) -> Parsed
+    requires { ⌜ Ready (now text) word n × (roleIn (tokenIn (now text) word) ≡ some (a-name name)) ⌝ }
+    ensures { λ r. ⌜ TestSays (now (text .entry)) word n (now (out .entry)) r (now (out .exit)) ⌝ }
+{
+    let t = token::next(text, word.end);
+    let kind = t.kind;
+    if !is_operand(kind) {
+        return Parsed::Refused {
+            refusal: Refusal::Token,
+            place: t.start,
+        };
+    }
+    let bytes = token::bytes(text, t);
+    let found = operand::meaning(name, bytes);
+    let Meant::Head(fields) = found else {
+        return Parsed::Refused {
+            refusal: Refusal::Operand,
+            place: t.start,
+        };
+    };
+    let next = token::next(text, t.end);
+    let m = n + 1;
+    let items = program::put_record(out, 16 * n, fields);
+    if fields.kind == 3 {
+        operand::put_items(bytes, out, items);
+        return Parsed::Upto {
+            next,
+            n: m + (fields.count as usize),
+        };
+    }
+    Parsed::Upto { next, n: m }
+}
+
+// A test; its records go from record n on.
+fn test(text: &[u8], t: Lexeme, out: &mut [u8], n: usize) -> Parsed
+    requires { ⌜ Ready (now text) t n × (opensLevel (t .kind) ≡ false) ⌝ }
+    ensures { λ r. ⌜ TestSays (now (text .entry)) t n (now (out .entry)) r (now (out .exit)) ⌝ }
+{
+    let role = role_of(text, t);
+    match role {
+        Role::Loops => {
+            program::put_record(out, 16 * n, plain(6, 0));
+            Parsed::Upto {
+                next: token::next(text, t.end),
+                n: n + 1,
+            }
+        }
+        Role::Bogons => {
+            program::put_record(out, 16 * n, plain(7, 0));
+            Parsed::Upto {
+                next: token::next(text, t.end),
+                n: n + 1,
+            }
+        }
+        Role::Named(name) => named(text, name, t, out, n),
+        _ => Parsed::Refused {
+            refusal: Refusal::Token,
+            place: t.start,
+        },
+    }
+}
+
+// `!` factor, `(` expression `)`, or a test.
+fn factor(text: &[u8], level: usize, t: Lexeme, out: &mut [u8], n: usize) -> Parsed
+    requires { ⌜ (level ≤ 32) × Ready (now text) t n ⌝ }
+    ensures { λ r. ⌜ Says a-factor (now (text .entry)) level t n (now (out .entry)) r (now (out .exit)) ⌝ }
+{
+    let kind = t.kind;
+    match kind {
+        Kind::Bang => {
+            if 32 <= level {
+                return Parsed::Refused {
+                    refusal: Refusal::Level,
+                    place: t.start,
+                };
+            }
+            let r = factor(text, level + 1, token::next(text, t.end), out, n);
+            let Parsed::Upto { next, n: m } = r else {
+                return r;
+            };
+            program::put_record(out, 16 * m, plain(10, 0));
+            Parsed::Upto { next, n: m + 1 }
+        }
+        Kind::Open => {
+            if 32 <= level {
+                return Parsed::Refused {
+                    refusal: Refusal::Level,
+                    place: t.start,
+                };
+            }
+            let r = expression(text, level + 1, token::next(text, t.end), out, n);
+            let Parsed::Upto { next, n: m } = r else {
+                return r;
+            };
+            let close = next.kind;
+            let Kind::Close = close else {
+                return Parsed::Refused {
+                    refusal: Refusal::Token,
+                    place: next.start,
+                };
+            };
+            Parsed::Upto {
+                next: token::next(text, next.end),
+                n: m,
+            }
+        }
+        _ => test(text, t, out, n),
+    }
+}
+
+// Factors joined by `-and`. A pass is written when the count of the records that it passes over is known.
+fn conjunction(text: &[u8], level: usize, t: Lexeme, out: &mut [u8], n: usize) -> Parsed
+    requires { ⌜ (level ≤ 32) × Ready (now text) t n ⌝ }
+    ensures { λ r. ⌜ Says a-conjunction (now (text .entry)) level t n (now (out .entry)) r (now (out .exit)) ⌝ }
+{
+    let r = factor(text, level, t, out, n);
+    let Parsed::Upto { next: first, n: m0 } = r else {
+        return r;
+    };
+    let mut u = first;
+    let mut m = m0;
+    loop {
+        let role = role_of(text, u);
+        let Role::And = role else {
+            return Parsed::Upto { next: u, n: m };
+        };
+        let q = factor(text, level, token::next(text, u.end), out, m + 1);
+        let Parsed::Upto { next, n: m1 } = q else {
+            return q;
+        };
+        program::put_record(out, 16 * m, plain(11, (m1 - m - 1) as u32));
+        u = next;
+        m = m1;
+    }
+}
+
+// Conjunctions joined by `-or`.
+fn expression(text: &[u8], level: usize, t: Lexeme, out: &mut [u8], n: usize) -> Parsed
+    requires { ⌜ (level ≤ 32) × Ready (now text) t n ⌝ }
+    ensures { λ r. ⌜ Says an-expression (now (text .entry)) level t n (now (out .entry)) r (now (out .exit)) ⌝ }
+{
+    let r = conjunction(text, level, t, out, n);
+    let Parsed::Upto { next: first, n: m0 } = r else {
+        return r;
+    };
+    let mut u = first;
+    let mut m = m0;
+    loop {
+        let role = role_of(text, u);
+        let Role::Or = role else {
+            return Parsed::Upto { next: u, n: m };
+        };
+        let q = conjunction(text, level, token::next(text, u.end), out, m + 1);
+        let Parsed::Upto { next, n: m1 } = q else {
+            return q;
+        };
+        program::put_record(out, 16 * m, plain(12, (m1 - m - 1) as u32));
+        u = next;
+        m = m1;
+    }
+}
+
+// A whole text, whose records go over the start of a buffer, as far as it reaches.
+fn parse(text: &[u8], out: &mut [u8]) -> Parsed
+    requires { ⌜ (length (now text) ≤ 4096) × Closed (now text) 0 ⌝ }
+    ensures { λ r. ⌜ Whole (now (text .entry)) (now (out .entry)) r (now (out .exit)) ⌝ }
+{
+    let r = expression(text, 0, token::next(text, 0), out, 0);
+    let Parsed::Upto { next, n: _ } = r else {
+        return r;
+    };
+    let kind = next.kind;
+    let Kind::End = kind else {
+        return Parsed::Refused {
+            refusal: Refusal::Token,
+            place: next.start,
+        };
+    };
+    r
+}
+
+// Compiles a text: its program over the start of a buffer and the program's bytes, or a refusal and the buffer as it was.
+pub fn compile(text: &[u8], program: &mut [u8]) -> Compiled
+    ensures { λ r. ⌜ valueOf r ≡ saidOf (answer (now (text .entry)) (length (now (program .entry)))) ⌝ }
+    ensures { λ r. ⌜ now (program .exit) ≡ bufferOf (answer (now (text .entry)) (length (now (program .entry)))) (now (program .entry)) ⌝ }
+{
+    if 4096 < text.len() {
+        return Compiled::Refused(Refusal::Length, 0);
+    }
+    let byte = token::forbidden(text);
+    if byte < text.len() {
+        return Compiled::Refused(Refusal::Byte, byte);
+    }
+    let quote = token::unclosed(text);
+    if quote < text.len() {
+        return Compiled::Refused(Refusal::Quote, quote);
+    }
+    // Measured on no buffer first: a refusal writes nothing.
+    let measured = parse(text, &mut program[..0]);
+    match measured {
+        Parsed::Refused { refusal, place } => Compiled::Refused(refusal, place),
+        Parsed::Upto { next: _, n } => {
+            if 512 < n {
+                return Compiled::Refused(Refusal::Weight, 0);
+            }
+            if program.len() < 16 * n {
+                return Compiled::Refused(Refusal::Room, 0);
+            }
+            parse(text, program);
+            Compiled::Program(16 * n)
+        }
+    }
+}

@@ -3,7 +3,9 @@ ghost use mathlib.Core.Path.{_≡_};
 ghost use mathlib.Core.List.{[], _∷_};
 ghost use Rattle.walk.specs.Steps.{stepAt};
 ghost use Rattle.grainlantern_c.specs.Lines.{linesNumber, linesValue, linesLeft};
+ghost use Rattle.grainlantern_c.specs.Programs.{compileNumber, compileValue, compileLeft};
 ghost use Rattle.grainlantern_c.specs.Steps.{stepNumber, stepValue};
+use filter::Compiled;
 use line::Wrote;
 use message::Decoded;
 use walk::Step;
@@ -14,6 +16,24 @@ fn answer(value: &mut [u64; 4], number: u32, first: u64) -> u32
 {
     *value = [first, 0, 0, 0];
     number
+}
+
+// Compiles a filter: 0 and its program's bytes, or the refusal's number and its place.
+#[no_mangle]
+pub extern "C" fn grainlantern_compile(text: &[u8], program: &mut [u8], value: &mut [u64; 4]) -> u32
+    ensures { λ r. ⌜ r ≡ compileNumber (now (text .entry)) (now (program .entry)) ⌝ }
+    ensures { λ r. ⌜ now (value .exit) ≡ compileValue (now (text .entry)) (now (program .entry)) ⌝ }
+    ensures { λ r. ⌜ now (program .exit) ≡ compileLeft (now (text .entry)) (now (program .entry)) ⌝ }
+{
+    let compiled = filter::compile(text, program);
+    match compiled {
+        Compiled::Program(bytes) => answer(value, 0, bytes as u64),
+        Compiled::Refused(refusal, place) => answer(
+            value,
+            filter::number_of(refusal),
+            place as u64,
+        ),
+    }
 }
 
 // The lines of a record, whatever a filter would say of it: 0 and their bytes, or the refusal's number.

@@ -5,7 +5,7 @@ ghost use lib.ListN.{getD, take, drop};
 ghost use Prim.Native.Nat.{_<_};
 ghost use lib.Dec.{leb};
 ghost use Rattle.octets.specs.Choice.{pick};
-ghost use Rattle.octets.specs.Numbers.{numberAt};
+ghost use Rattle.octets.specs.Numbers.{numberAt, bytesOf};
 ghost use Rattle.octets.specs.Writes.{Written};
 ghost use Rattle.octets.specs.Decimal.{decimal};
 
@@ -86,4 +86,18 @@ pub fn put_decimal(out: &mut [u8], at: usize, n: u32) -> usize
     }
     let next = put_decimal(out, at, n / 10);
     put(out, next, (n % 10 + 48) as u8)
+}
+
+// Writes the width bytes of a number, the most significant first; nothing where the width is more than four.
+pub fn put_number(out: &mut [u8], at: usize, n: u32, width: usize) -> usize
+    ensures { λ r. ⌜ Written (now (out .entry)) at (pick (leb width 4) (bytesOf width n) []) (now (out .exit)) r ⌝ }
+{
+    if width == 0 {
+        return at;
+    }
+    if 4 < width {
+        return at;
+    }
+    let next = put_number(out, at, n / 256, width - 1);
+    put(out, next, (n % 256) as u8)
 }

@@ -60,11 +60,6 @@ weight (test t) = 1 + itemCount t
 weight (neg r) = weight r + 1
 weight (joint o a b) = weight a + 1 + weight b
 
--- the flag that decides a joint by its left side: false for `-and`, true for `-or`
-abbrev pub deciding : Operator → Bool
-deciding and = false
-deciding or = true
-
 -- `-and` as both, `-or` as either
 abbrev pub joins : Operator → Bool → Bool → Bool
 joins and a b = pick a b false

@@ -2,7 +2,8 @@
 ghost use mathlib.Core.Path.{_≡_};
 ghost use Prim.Native.Nat.{_+_, _≤_};
 ghost use lib.ListN.{drop, getD, length};
-ghost use Rattle.program.specs.Layout.{fieldsIn};
+ghost use Rattle.octets.specs.Writes.{Written};
+ghost use Rattle.program.specs.Layout.{fieldsIn, laid};
 ghost use Rattle.program.specs.Validity.{rightCode, rightPath, rightItem, rightPeer, rightNetwork, rightTime, rightBare, rightPass, rightFields, rightRecord, allRightIn, leftAfter, groupedIn, landsWell, landingIn, testKind, isValid};
 
 // The fields of a record: kind, variant, count, A and B.
@@ -32,6 +33,18 @@ pub fn fields_at(program: &[u8], at: usize) -> Fields
         a: octets::number(record, 4, 4),
         b: octets::number(record, 8, 4),
     }
+}
+
+// Writes a record of these fields.
+pub fn put_record(out: &mut [u8], at: usize, f: Fields) -> usize
+    ensures { λ r. ⌜ Written (now (out .entry)) at (laid f) (now (out .exit)) r ⌝ }
+{
+    let variant = octets::put_number(out, at, f.kind, 1);
+    let count = octets::put_number(out, variant, f.variant, 1);
+    let a = octets::put_number(out, count, f.count, 2);
+    let b = octets::put_number(out, a, f.a, 4);
+    let zeros = octets::put_number(out, b, f.b, 4);
+    octets::put_number(out, zeros, 0, 4)
 }
 
 fn right_code(f: Fields) -> bool

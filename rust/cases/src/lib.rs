@@ -3,6 +3,13 @@
 use std::path::PathBuf;
 
 extern "C" {
+    fn grainlantern_compile(
+        text: *const u8,
+        text_len: usize,
+        program: *mut u8,
+        program_len: usize,
+        value: *mut u64,
+    ) -> u32;
     fn grainlantern_lines(
         record: *const u8,
         record_len: usize,
@@ -11,6 +18,21 @@ extern "C" {
         value: *mut u64,
     ) -> u32;
     fn grainlantern_step(records: *const u8, records_len: usize, at: usize, value: *mut u64) -> u32;
+}
+
+/// The answer of `grainlantern_compile`: 0 and the program's bytes, or a refusal's number and its place.
+pub fn compile(text: &[u8], program: &mut [u8]) -> (u32, [u64; 4]) {
+    let mut value = [u64::MAX; 4];
+    let number = unsafe {
+        grainlantern_compile(
+            text.as_ptr(),
+            text.len(),
+            program.as_mut_ptr(),
+            program.len(),
+            value.as_mut_ptr(),
+        )
+    };
+    (number, value)
 }
 
 /// The answer of `grainlantern_lines`: 0 and the bytes written, or a refusal's number.

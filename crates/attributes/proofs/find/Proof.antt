@@ -1,10 +1,11 @@
 -- `attributes::find` meets its contract. The loop's invariant: the search over the section finds what it finds from here on. Assumes nothing.
-use Prim.Native.Nat.{_-_, _≤_}
+use Prim.Native.Nat.{ℕ, _+_, _-_, _≤_}
 use native.Mathlib.Omega.{arith}
-use mathlib.Core.Path.{_≡_, refl, sym, _∙_}
+use mathlib.Core.Path.{_≡_, refl, sym, ap₂, _∙_}
 use lib.ListN.{length, drop, length-drop}
 use borrow.Author.Needs.{needs}
 use denote.Ref.{now}
+use Rattle.attributes.specs.declared.Found.the-variants.{At}
 use Rattle.attributes.specs.Finding.{findOf}
 use Rattle.attributes.proofs.Sizes.{attribute-sizes, Step, step}
 use Rattle.attributes.proofs.Finding.{findFrom, find-end, find-here, find-next}
@@ -54,7 +55,8 @@ returns-2 : tie.Need-returns-2 Inv-loop μ-loop
 returns-2 c =
     let x = stands (c .before .before .before .before) in
     let l = c .before .before .before .before .before .before .before .loop in
-    cc (find-here _ (l .at) _ (x .some) (x .code ∙ c .before .before .if2 .taken), l .inv .1, c .before .header-size .ensures .0, c .body-size .ensures .0)
+    let here = find-here _ (l .at) _ (x .some) (x .code ∙ c .before .before .if2 .taken) in
+    ap₂ (λ (h b : ℕ). At (l .at + h) b) (c .before .header-size .ensures .0) (c .body-size .ensures .0) ∙ sym here ∙ l .inv .1
 
 add-at : tie.Need-add-at Inv-loop μ-loop
 add-at c =

@@ -24,7 +24,14 @@ number-requires-5 c κs = search needs
 
 returns : tie.Need-returns
 unfolding fieldsIn
-returns c = rw (← c .before .before .before .before .before .rest .ensures) (cc)
+returns c = rw (
+  c .before .before .before .before .number .ensures,
+  c .before .before .before .number2 .ensures,
+  c .before .before .number3 .ensures,
+  c .before .number4 .ensures,
+  c .number5 .ensures,
+  c .before .before .before .before .before .rest .ensures,
+)
 
 pub fields-at-spec : {M : Type 1} → statement M
 fields-at-spec =

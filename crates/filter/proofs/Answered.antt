@@ -1,0 +1,119 @@
+-- The computed answer is one that the words give, and they give no other. Assumes nothing.
+use Prim.Native.Nat.{ℕ, _*_, _≤_, _<_}
+use native.Mathlib.Omega.{arith}
+use native.Mathlib.Decide.{decLe}
+use native.Mathlib.Nat.{lt-of-not-le}
+use mathlib.Core.Path.{_≡_, refl, sym, ap, _∙_}
+use mathlib.Core.List.{List}
+use lib.ListN.{length}
+use borrow.Author.Tests.{lt-ltb, le-ltb}
+use Rattle.program.specs.Readings.{Reading, weight}
+use Rattle.program.specs.Records.{weightLimit}
+use Rattle.program.specs.Layout.{recordSize}
+use Rattle.token.specs.Texts.{textLimit, levelLimit}
+use Rattle.token.specs.Tokens.{Placed, Lexes, Unclosed}
+use Rattle.token.specs.Lexer.{Lexed, tokens, unclosed}
+use Rattle.token.specs.Lexer as lexer
+use Rattle.token.specs.Next.{allowedFront}
+use Rattle.token.proofs.AllowedBytes.{Forbidden, forbidden-once, forbidden-none, front-most, allowed-front, front-forbidden}
+use Rattle.token.proofs.Lexing.{read-tokens, read-unclosed, lexes-once, lex-complete}
+use Rattle.filter.specs.Answers.{bare, Fine, Reaches, Derives, Outcome, compiled, refused, Answers}
+use Rattle.filter.specs.Answers as words
+use Rattle.filter.specs.Reader.{Answer, read}
+use Rattle.filter.specs.Reader as reader
+use Rattle.filter.specs.Answering.{fitted, judged, lexed, answer}
+use Rattle.filter.proofs.Sound.{sound}
+use Rattle.filter.proofs.Refusals as refusals
+use Rattle.filter.proofs.Places.{refused-answers, read-derives, Refused, answers-refused, derives-read}
+
+-- ---- the words give the computed answer
+
+module _ (text : List ℕ) (room : ℕ) where
+  -- 7 and 8, or compiled
+  fitted-answers : (r : Reading) → Fine text → Derives text r → Answers text room (fitted room r)
+  fitted-answers r f d = by-weight (decLe (weight r) weightLimit) (decLe (recordSize * weight r) room)
+    where
+      by-weight : Dec (weight r ≤ weightLimit) → Dec (recordSize * weight r ≤ room) → Answers text room (fitted room r)
+      by-weight (no h) k = rw (lt-ltb weightLimit (weight r) (lt-of-not-le h)) (words.too-heavy f d (lt-of-not-le h))
+      by-weight (yes h) (no k) =
+          rw (le-ltb weightLimit (weight r) h, lt-ltb room (recordSize * weight r) (lt-of-not-le k)) (words.no-room f d h (lt-of-not-le k))
+      by-weight (yes h) (yes k) = rw (le-ltb weightLimit (weight r) h, le-ltb room (recordSize * weight r) k) (words.compiles f d h k)
+
+  -- 4 to 6, or a reading
+  judged-answers : (ps : List Placed) → Fine text → Lexes 0 text ps → (a : Answer) → read levelLimit (bare ps) ≡ a → Answers text room (judged (length text) ps room a)
+  judged-answers ps f l (reader.ok r) e = let (d, w) = sound levelLimit (bare ps) e in fitted-answers r f (read-derives ps l d w)
+  judged-answers ps f l (reader.refused w us) e = refused-answers ps f l (rw e at (refusals.judged levelLimit (bare ps)))
+
+  -- 3, or tokens
+  lexed-answers : Fine text → (l : Lexed) → lexer.read text ≡ l → Answers text room (lexed (length text) room l)
+  lexed-answers f (tokens ps) e = let d : Lexes 0 text ps = read-tokens text ps .0 e in judged-answers ps f d (read levelLimit (bare ps)) refl
+  lexed-answers f (unclosed p) e = words.unclosed f (read-unclosed text p .0 e)
+
+  -- the computed answer is one that the words give
+  pub answer-given : Answers text room (answer text room)
+  unfolding answer
+  answer-given = by-size (decLe (length text) textLimit) (decLe (length text) (allowedFront text))
+    where
+      by-size : Dec (length text ≤ textLimit) → Dec (length text ≤ allowedFront text) → Answers text room (answer text room)
+      by-size (no h) k = rw (lt-ltb textLimit (length text) (lt-of-not-le h)) (words.too-long (lt-of-not-le h))
+      by-size (yes h) (no k) =
+          let x : Forbidden text (allowedFront text) = front-forbidden text .0 (lt-of-not-le k) in
+          rw (le-ltb textLimit (length text) h, lt-ltb (allowedFront text) (length text) (lt-of-not-le k))
+          (words.forbidden (allowedFront text) h (x .within) (x .earlier) (x .here))
+      by-size (yes h) (yes k) =
+          let f : Fine text = record { short = h; allowed = allowed-front text .0 (omega (arith, front-most text)) } in
+          rw (le-ltb textLimit (length text) h, le-ltb (allowedFront text) (length text) k) (lexed-answers f (lexer.read text) refl)
+
+-- ---- and no other
+
+module _ (text : List ℕ) (room : ℕ) where
+  -- size and bytes are passed
+  fine-answer : Fine text → answer text room ≡ lexed (length text) room (lexer.read text)
+  unfolding answer
+  fine-answer f =
+      let e : allowedFront text ≡ length text = allowed-front text .1 (f .allowed) in
+      rw (le-ltb textLimit (length text) (f .short), le-ltb (allowedFront text) (length text) (omega arith))
+
+  -- tokens, and what the reader makes of them
+  tokens-answer : (ps : List Placed) → Fine text → Lexes 0 text ps → {a : Answer} → read levelLimit (bare ps) ≡ a → answer text room ≡ judged (length text) ps room a
+  tokens-answer ps f d e = fine-answer f ∙ (ap (lexed (length text) room) (read-tokens text ps .1 d) ∙ ap (judged (length text) ps room) e)
+
+  -- a text that is derived
+  derived-answer : {r : Reading} → Fine text → (d : Derives text r) → answer text room ≡ fitted room r
+  derived-answer f d = tokens-answer (d .tokens) f (d .lexed) (derives-read text room (d .tokens) (λ qs l. lexes-once l (d .lexed)) d)
+
+  -- 4 to 6
+  refused-answer : {n p : ℕ} (ps : List Placed) → Fine text → Lexes 0 text ps → 4 ≤ n → n ≤ 6 → Answers text room (refused n p) → answer text room ≡ refused n p
+  refused-answer {n} {p} ps f l i j w = by-reader (answers-refused text room ps (λ qs k. lexes-once k l) i j w)
+    where
+      by-reader : Refused (length text) ps n p → answer text room ≡ refused n p
+      by-reader x = tokens-answer ps f l (x .answer) ∙ rw (x .numbered, x .there)
+
+  -- a forbidden byte that is the first is found
+  first-forbidden : {p : ℕ} → Forbidden text p → allowedFront text ≡ p
+  first-forbidden {p} x = by-front (decLe (length text) (allowedFront text))
+    where
+      by-front : Dec (length text ≤ allowedFront text) → allowedFront text ≡ p
+      by-front (yes h) = absurd (forbidden-none x (allowed-front text .0 (omega (arith, front-most text))))
+      by-front (no h) = forbidden-once (front-forbidden text .0 (lt-of-not-le h)) x
+
+  -- what the words give is the computed answer
+  pub only-answer : {o : Outcome} → Answers text room o → answer text room ≡ o
+  unfolding answer
+  only-answer (words.too-long h) = rw (lt-ltb textLimit (length text) h)
+  only-answer (words.forbidden p h i j k) =
+      let x : Forbidden text p = record { within = i; earlier = j; here = k } in
+      let e : allowedFront text ≡ p = first-forbidden x in
+      rw (le-ltb textLimit (length text) h, e, lt-ltb p (length text) i)
+  only-answer (words.unclosed {p} f u) = fine-answer f ∙ ap (lexed (length text) room) (read-unclosed text p .1 u)
+  only-answer (words.bad-token f x a s) = refused-answer _ f (x .lexed) (omega arith) (omega arith) (words.bad-token f x a s)
+  only-answer (words.bad-end ts f l w n) = refused-answer ts f l (omega arith) (omega arith) (words.bad-end ts f l w n)
+  only-answer (words.bad-operand f x a s) = refused-answer _ f (x .lexed) (omega arith) (omega arith) (words.bad-operand f x a s)
+  only-answer (words.too-deep f x o) = refused-answer _ f (x .lexed) (omega arith) (omega arith) (words.too-deep f x o)
+  only-answer (words.too-heavy {r} f d h) = derived-answer f d ∙ rw (lt-ltb weightLimit (weight r) h)
+  only-answer (words.no-room {r} f d h k) = derived-answer f d ∙ rw (le-ltb weightLimit (weight r) h, lt-ltb room (recordSize * weight r) k)
+  only-answer (words.compiles {r} f d h k) = derived-answer f d ∙ rw (le-ltb weightLimit (weight r) h, le-ltb room (recordSize * weight r) k)
+
+  -- so the words give one answer
+  pub answers-once : {o p : Outcome} → Answers text room o → Answers text room p → o ≡ p
+  answers-once a b = sym (only-answer a) ∙ only-answer b

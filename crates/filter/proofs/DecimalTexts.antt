@@ -1,0 +1,140 @@
+-- The decimal digits of a number are its decimal, and the text of an address is that address; both can be quoted. Assumes nothing.
+use Prim.Native.Nat.{ℕ, zero, suc, _+_, _*_, _/_, _%_, _^_, _≤_, _<_}
+use native.Mathlib.Nat.{pow-suc, lt-of-not-le}
+use native.Mathlib.Decide.{decLe}
+use native.Mathlib.Omega.{arith}
+use mathlib.Core.Path.{_≡_, refl, _∙_}
+use mathlib.Core.Bool.{Bool, true, false}
+use mathlib.Core.List.{List, [], _∷_, _++_}
+use lib.Dec.{leb}
+use lib.ListN.{length, length-append}
+use borrow.Author.Tests.{leb-true, le-ltb}
+use Rattle.octets.specs.Choice.{pick}
+use Rattle.octets.specs.Decimal as octets
+use Rattle.octets.proofs.Choices.{either, each}
+use Rattle.octets.proofs.Decimal.{digits-small, digits-length}
+use Rattle.network.specs.Text.{addressText}
+use Rattle.token.specs.Texts.{Every, none, more}
+use Rattle.operand.specs.Decimals.{Decimal, digit, Below}
+use Rattle.operand.specs.Decimals as decimals
+use Rattle.operand.specs.Addresses.{Address}
+use Rattle.operand.proofs.FrontReads.{run-append}
+use Rattle.filter.proofs.Spelling.{Plain}
+
+-- ---- bytes that may stand in an operand
+
+-- bytes that can be quoted, at most so many
+pub record Quotable (most : ℕ) (bs : List ℕ) : Type 0 where
+  pub plain : Every Plain bs
+  pub short : length bs ≤ most
+
+-- a printed byte that is no quote, as a test
+abbrev pub isPlain : ℕ → Bool
+isPlain b = pick (pick (leb 32 b) (leb b 38) false) true (pick (leb 40 b) (leb b 126) false)
+
+-- what passes it is plain
+pub plain-sound : (b : ℕ) → isPlain b ≡ true → Plain b
+plain-sound b e = either (pick (leb 32 b) (leb b 38) false) (pick (leb 40 b) (leb b 126) false) e low high
+  where
+    low : pick (leb 32 b) (leb b 38) false ≡ true → Plain b
+    low t =
+        let p = each (leb 32 b) (leb b 38) t in
+        let h : 32 ≤ b = leb-true 32 b (p .0) in
+        let k : b ≤ 38 = leb-true b 38 (p .1) in
+        record { low = h; high = omega arith; no-quote = λ q. omega arith }
+
+    high : pick (leb 40 b) (leb b 126) false ≡ true → Plain b
+    high t =
+        let p = each (leb 40 b) (leb b 126) t in
+        let h : 40 ≤ b = leb-true 40 b (p .0) in
+        let k : b ≤ 126 = leb-true b 126 (p .1) in
+        record { low = omega arith; high = k; no-quote = λ q. omega arith }
+
+-- a digit
+pub digit-plain : (d : ℕ) → d ≤ 9 → Plain (48 + d)
+digit-plain d h = record { low = omega arith; high = omega arith; no-quote = λ e. omega arith }
+
+-- no bytes
+pub nothing : Quotable 0 []
+nothing = record { plain = none; short = omega arith }
+
+-- a byte before others
+pub before : {n : ℕ} (b : ℕ) {bs : List ℕ} → isPlain b ≡ true → Quotable n bs → Quotable (suc n) (b ∷ bs)
+before b e x = record { plain = more (plain-sound b e) (x .plain); short = omega (arith, x .short) }
+
+-- joined bytes
+pub join : {m n : ℕ} {xs ys : List ℕ} → Quotable m xs → Quotable n ys → Quotable (m + n) (xs ++ ys)
+join {xs = xs} {ys} x y = record { plain = run-append (x .plain) (y .plain); short = omega (arith, length-append xs ys, x .short, y .short) }
+
+-- with a larger bound
+pub shorter : {m : ℕ} (n : ℕ) {bs : List ℕ} → m ≤ n → Quotable m bs → Quotable n bs
+shorter n h x = record { plain = x .plain; short = omega (arith, x .short) }
+
+-- ---- decimals
+
+-- a digit is its decimal
+small-decimal : (f n : ℕ) → n < 10 → Decimal (octets.digits (suc f) n) n
+small-decimal f n h =
+    let e : n + 48 ≡ 48 + n = omega arith in
+    rw (digits-small f n h, e) (digit n (omega arith))
+
+-- the digits of a number are its decimal
+digits-decimal : (f n : ℕ) → n < 10 ^ suc f → Decimal (octets.digits (suc f) n) n
+digits-decimal zero n h = small-decimal zero n h
+digits-decimal (suc f) n h = go (digits-decimal f (n / 10)) (decLe 10 n)
+  where
+    go : (n / 10 < 10 ^ suc f → Decimal (octets.digits (suc f) (n / 10)) (n / 10)) → Dec (10 ≤ n) → Decimal (octets.digits (suc (suc f)) n) n
+    go ih (no k) = small-decimal (suc f) n (lt-of-not-le k)
+    go ih (yes k) =
+        let e : n / 10 < 10 ^ suc f = omega (arith, pow-suc 10 (suc f)) in
+        let s : octets.digits (suc (suc f)) n ≡ octets.digits (suc f) (n / 10) ++ ((n % 10 + 48) ∷ []) = unfold octets.digits in simp (le-ltb _ _ k) in
+        let b : n % 10 + 48 ≡ 48 + n % 10 = omega arith in
+        let v : 10 * (n / 10) + n % 10 ≡ n = omega arith in
+        let x : Decimal (octets.digits (suc (suc f)) n) (10 * (n / 10) + n % 10) = decimals.more (n % 10) (ih e) (omega arith) (omega arith) (s ∙ rw b refl) in
+        rw v at x
+
+-- of every number of 32 bits
+pub decimal-is : (limit n : ℕ) → n < limit → n < 2 ^ 32 → Below limit (octets.decimal n) n
+decimal-is limit n h w = record { decimal = digits-decimal 9 n (omega arith); below = h }
+
+-- digits can be quoted
+decimal-plain : {bs : List ℕ} {n : ℕ} → Decimal bs n → Every Plain bs
+decimal-plain (digit d h) = more (digit-plain d h) none
+decimal-plain (decimals.more d x m h e) = rw e (run-append (decimal-plain x) (more (digit-plain d h) none))
+
+-- ten at most
+pub decimal-quotable : (n : ℕ) → n < 2 ^ 32 → Quotable 10 (octets.decimal n)
+decimal-quotable n w = record { plain = decimal-plain (digits-decimal 9 n (omega arith)); short = digits-length 10 n }
+
+-- ---- addresses
+
+-- the text of an address is that address
+pub address-is : (a : ℕ) → a < 2 ^ 32 → Address (addressText a) a
+unfolding addressText
+address-is a h =
+    record {
+      a = a / 16777216;
+      b = a / 65536 % 256;
+      c = a / 256 % 256;
+      d = a % 256;
+      aText = octets.decimal (a / 16777216);
+      bText = octets.decimal (a / 65536 % 256);
+      cText = octets.decimal (a / 256 % 256);
+      dText = octets.decimal (a % 256);
+      joined = refl;
+      a-is = decimal-is 256 (a / 16777216) (omega arith) (omega arith);
+      b-is = decimal-is 256 (a / 65536 % 256) (omega arith) (omega arith);
+      c-is = decimal-is 256 (a / 256 % 256) (omega arith) (omega arith);
+      d-is = decimal-is 256 (a % 256) (omega arith) (omega arith);
+      value = omega arith;
+    }
+
+-- and can be quoted
+pub address-quotable : (a : ℕ) → a < 2 ^ 32 → Quotable 43 (addressText a)
+unfolding addressText
+address-quotable a h =
+    shorter 43 (omega arith)
+    (join (decimal-quotable (a / 16777216) (omega arith))
+    (before 46 refl (join (decimal-quotable (a / 65536 % 256) (omega arith))
+    (before 46 refl (join (decimal-quotable (a / 256 % 256) (omega arith))
+    (before 46 refl (decimal-quotable (a % 256) (omega arith))))))))

@@ -1,0 +1,65 @@
+-- Blanks by a test, and where runs of blanks and of digits stop. Assumes nothing.
+use Prim.Native.Nat.{ℕ, _≤_}
+use native.Mathlib.Omega.{arith}
+use mathlib.Core.Path.{_≡_, refl, sym, _∙_}
+use mathlib.Core.Bool.{Bool, true, false}
+use mathlib.Core.List.{List, _++_, append-assoc}
+use lib.Dec.{eqb}
+use lib.ListN.{length, getD}
+use borrow.Author.Tests.{eqb-true, ne-eqb}
+use Rattle.octets.specs.Choice.{pick}
+use Rattle.octets.proofs.Choices.{never, either}
+use Rattle.token.specs.Texts.{Blank, space, tab, lineFeed, Every, none, more}
+use Rattle.operand.specs.Decimals.{Decimal, digit, more}
+use Rattle.operand.proofs.FrontReads.{Run, Stops, other, first-other, run-map}
+use Rattle.operand.proofs.Decimals.{digit-is}
+use Rattle.operand.specs.Decimals.{isDigit}
+use Rattle.operand.specs.Fronts.{isBlank}
+
+-- a byte that passes is a blank
+pub blank-sound : (b : ℕ) → isBlank b ≡ true → Blank b
+unfolding isBlank
+blank-sound b e =
+    either (eqb b 32) (pick (eqb b 9) true (eqb b 10)) e (λ t. rw (eqb-true b 32 t) space)
+    (λ u. either (eqb b 9) (eqb b 10) u (λ t. rw (eqb-true b 9 t) tab) (λ t. rw (eqb-true b 10 t) lineFeed))
+
+-- and every blank passes
+pub blank-complete : (b : ℕ) → Blank b → isBlank b ≡ true
+unfolding isBlank
+blank-complete b space = refl
+blank-complete b tab = refl
+blank-complete b lineFeed = refl
+
+-- bytes that pass are blanks
+pub blanks-sound : {l : List ℕ} → Run isBlank l → Every Blank l
+blanks-sound h = run-map blank-sound h
+
+-- and blanks pass
+pub blanks-complete : {l : List ℕ} → Every Blank l → Run isBlank l
+blanks-complete h = run-map blank-complete h
+
+-- a test that p passes and q doesn't tells bytes apart
+pub apart : (p : ℕ → Bool) {x : ℕ} (b : ℕ) → p x ≡ true → p b ≡ false → eqb x b ≡ false
+apart p {x} b e f = ne-eqb x b (λ z. never (sym f ∙ (rw z at e)))
+
+-- no digit is a blank
+pub digit-no-blank : (b : ℕ) → isDigit b ≡ true → isBlank b ≡ false
+unfolding isBlank isDigit
+digit-no-blank b e = rw (apart isDigit 32 e refl, apart isDigit 9 e refl, apart isDigit 10 e refl)
+
+-- digits stop before a blank
+pub blank-stops : {gap : List ℕ} → Every Blank gap → 1 ≤ length gap → (rest : List ℕ) → Stops isDigit (gap ++ rest)
+unfolding isDigit
+blank-stops none h rest = absurd (omega arith)
+blank-stops (more space bs) h rest = other refl
+blank-stops (more tab bs) h rest = other refl
+blank-stops (more lineFeed bs) h rest = other refl
+
+-- what no digit passes stops at a decimal
+pub decimal-stops : (p : ℕ → Bool) → ((b : ℕ) → isDigit b ≡ true → p b ≡ false) → {text : List ℕ} {n : ℕ} → Decimal text n → (rest : List ℕ) → Stops p (text ++ rest)
+decimal-stops p f (digit d h) rest = other (f _ (digit-is d h))
+decimal-stops p f (more {bs} d x m h e) rest = rw (e, append-assoc bs) (decimal-stops p f x _)
+
+-- so a decimal does not start with what is no digit
+pub decimal-first : {text : List ℕ} {n : ℕ} → Decimal text n → (rest : List ℕ) (b : ℕ) → isDigit b ≡ false → eqb 0 b ≡ false → eqb (getD (text ++ rest) 0 0) b ≡ false
+decimal-first x rest b e z = first-other b z (decimal-stops (λ (y : ℕ). eqb y b) (λ y f. apart isDigit b f e) x rest)

@@ -1,0 +1,46 @@
+-- Answers that may be missing, and what holds of them. Assumes nothing.
+use Prim.Native.Nat.{ℕ}
+use native.Mathlib.Omega.{arith}
+use mathlib.Core.Path.{_≡_, refl}
+use mathlib.Core.Bool.{Bool, true, false}
+use mathlib.Core.Option.{Option, none, some}
+use Rattle.octets.specs.Choice.{pick}
+use Rattle.operand.specs.Fronts.{onward, orElse}
+
+-- an answer, if there is one, is so
+pub data Holds {A : Type 0} (P : A → Type 0) : Option A → Type 0 where
+  nothing : Holds P none
+  held : {a : A} → P a → Holds P (some a)
+
+abbrev pub missing : {A : Type 0} → Option A → Bool
+missing none = true
+missing (some a) = false
+
+-- what goes on from what holds holds
+pub holds-onward : {A B : Type 0} {P : A → Type 0} {Q : B → Type 0} {o : Option A} {f : A → Option B} → Holds P o → ((a : A) → P a → Holds Q (f a)) → Holds Q (onward o f)
+holds-onward nothing g = nothing
+holds-onward (held {a} h) g = g a h
+
+-- the first of two answers that hold holds
+pub holds-else : {A : Type 0} {P : A → Type 0} {o p : Option A} → Holds P o → Holds P p → Holds P (orElse o p)
+holds-else nothing g = g
+holds-else (held h) g = held h
+
+-- a choice of what holds holds
+pub holds-pick : {A : Type 0} {P : A → Type 0} (b : Bool) {o p : Option A} → (b ≡ true → Holds P o) → (b ≡ false → Holds P p) → Holds P (pick b o p)
+holds-pick true f g = f refl
+holds-pick false f g = g refl
+
+-- an answer that was given is so
+pub holds-some : {A : Type 0} {P : A → Type 0} {a : A} {o : Option A} → Holds P o → o ≡ some a → P a
+holds-some nothing e = let z : _≡_ {A = ℕ} 0 1 = cc in absurd (omega arith)
+holds-some {P = P} {a = a} (held {a = b} h) e = let z : b ≡ a = cc in rw z at h
+
+-- what holds of an answer may be put otherwise
+pub holds-map : {A : Type 0} {P Q : A → Type 0} {o : Option A} → ((a : A) → P a → Q a) → Holds P o → Holds Q o
+holds-map f nothing = nothing
+holds-map f (held {a} h) = held (f a h)
+
+-- an answer has one value
+pub some-once : {A : Type 0} {a b : A} {o : Option A} → o ≡ some a → o ≡ some b → a ≡ b
+some-once p q = cc

@@ -1,0 +1,142 @@
+-- What is meant is possible: codes, addresses, items and times are within their bounds. Assumes nothing.
+use Prim.Native.Nat.{ℕ, zero, suc, _+_, _*_, _-_, _^_, _≤_, _<_}
+use native.Mathlib.Nat.{mul-le-mul-right, mul-assoc, pow-succ'}
+use native.Mathlib.Omega.{arith}
+use mathlib.Core.Path.{_≡_, refl, sym, ap}
+use mathlib.Core.Bool.{Bool, true, false}
+use mathlib.Core.List.{List, [], _∷_}
+use lib.Dec.{ltb}
+use lib.ListN.{length, getD}
+use borrow.Author.Tests.{ltb-true}
+use Rattle.octets.specs.Choice.{pick}
+use Rattle.octets.proofs.Choices.{each}
+use Rattle.octets.proofs.Encode.{Every, every-none, every-more}
+use Rattle.octets.proofs.Ranges.{within}
+use Rattle.network.specs.declared.Network.{Network}
+use Rattle.network.proofs.Clearing.{cleared-le, cleared-again}
+use Rattle.aspath.specs.declared.Item.{Item}
+use Rattle.aspath.specs.Patterns.{Pattern}
+use Rattle.program.specs.Readings.{Peer, Side, Comparison, Test}
+use Rattle.program.specs.Records.{Code, Word, ItemPossible, PeerPossible, NetworkPossible, TimePossible}
+use Rattle.program.proofs.ReadingValid.{PatternPossible, PossibleTest}
+use Rattle.operand.specs.Decimals.{Digits, end, more}
+use Rattle.operand.specs.Codes.{Named, typeNames, attributeNames, CodeOperand, by-name, by-code}
+use Rattle.operand.specs.Addresses.{Address, NetworkText, NetworkOperand, plain, plus, minus}
+use Rattle.operand.specs.Peers.{PeerOperand, by-as, by-address, by-both}
+use Rattle.operand.specs.Patterns.{empty, ItemText, a-number, not-it, any, ItemsText, last, more, PatternOperand}
+use Rattle.operand.specs.Times.{FractionText, whole, fraction, TimeOperand}
+use Rattle.operand.specs.declared.Name.{Name}
+use Rattle.operand.specs.Tests.{StandsFor, type, attribute, path, peer, network, time}
+
+-- ---- codes
+
+-- the codes of a table are bytes
+unfoldable pub smallCodes : List Named → Bool
+smallCodes [] = true
+smallCodes (n ∷ ns) = pick (ltb (n .code) 256) (smallCodes ns) false
+
+-- so is the code of each row
+small-at : (names : List Named) (i : ℕ) → smallCodes names ≡ true → getD names i (record { name = []; code = 0 }) .code < 256
+unfolding smallCodes
+small-at [] i t = omega arith
+small-at (n ∷ ns) zero t = ltb-true (n .code) 256 (each (ltb (n .code) 256) (smallCodes ns) t .0)
+small-at (n ∷ ns) (suc i) t = small-at ns i (each (ltb (n .code) 256) (smallCodes ns) t .1)
+
+-- a code is a byte
+code-possible : {names : List Named} {l : List ℕ} {c : ℕ} → smallCodes names ≡ true → CodeOperand names l c → Code c
+code-possible {names} t (by-name i h e) = record { below = small-at names i t }
+code-possible t (by-code b) = record { below = b .below }
+
+-- the codes of message types are
+types-small : smallCodes typeNames ≡ true
+unfolding smallCodes typeNames
+types-small = refl
+
+-- and those of attributes
+attributes-small : smallCodes attributeNames ≡ true
+unfolding smallCodes attributeNames
+attributes-small = refl
+
+-- ---- addresses, networks, peers
+
+-- an address has 32 bits
+pub address-word : {l : List ℕ} {a : ℕ} → Address l a → Word a
+address-word x = record { below = omega (arith, x .a-is .below, x .b-is .below, x .c-is .below, x .d-is .below, x .value) }
+
+-- a network has at most 32 bits, those past its length clear
+network-possible : {l : List ℕ} {n : Network} → NetworkText l n → NetworkPossible n
+network-possible x =
+    rw (x .value) (record {
+      sized = omega (arith, x .len-is .below);
+      word = record { below = omega (arith, cleared-le 32 (x .len) (x .address), address-word (x .address-is) .below) };
+      clear = ap (λ (a : ℕ). record { address = a; len = x .len }) (sym (cleared-again 32 (x .len) (x .address)));
+    })
+
+-- on either side
+side-possible : {l : List ℕ} {s : Side} {n : Network} → NetworkOperand l s n → NetworkPossible n
+side-possible (plain t) = network-possible t
+side-possible (plus t) = network-possible t
+side-possible (minus t) = network-possible t
+
+-- a peer's numbers have 32 bits
+peer-possible : {l : List ℕ} {p : Peer} → PeerOperand l p → PeerPossible p
+peer-possible (by-as b) = record { below = b .below }
+peer-possible (by-address x) = address-word x
+peer-possible (by-both x g h b e) = (address-word x, record { below = b .below })
+
+-- ---- patterns
+
+-- an item's number has 32 bits
+item-possible : {l : List ℕ} {i : Item} → ItemText l i → ItemPossible i
+item-possible (a-number b) = record { below = b .below }
+item-possible (not-it b) = record { below = b .below }
+item-possible any = tt
+
+-- and those of all items
+items-possible : {l : List ℕ} {is : List Item} → ItemsText l is → Every ItemPossible is
+items-possible empty = every-none
+items-possible (last t) = every-more (item-possible t) every-none
+items-possible (more t g h x e) = every-more (item-possible t) (items-possible x)
+
+-- a pattern has an item, `^` or `$`
+pattern-possible : {l : List ℕ} {p : Pattern} → PatternOperand l p → PatternPossible p
+pattern-possible {p = p} x = record { each = items-possible (x .items-are); some = λ s e i. x .some s e (no-items (p .items) i) }
+  where
+    no-items : (is : List Item) → length is ≡ 0 → is ≡ []
+    no-items [] h = refl
+    no-items (i ∷ is) h = absurd (omega arith)
+
+-- ---- times
+
+-- digits behind a number
+digits-below : {n m : ℕ} {l : List ℕ} → Digits n l m → m < suc n * 10 ^ length l
+digits-below end = omega arith
+digits-below (more {n} {m} {bs} d h x) =
+    let a : suc (10 * n + d) * 10 ^ length bs ≤ suc n * 10 * 10 ^ length bs = mul-le-mul-right (10 ^ length bs) (omega arith) in
+    let b : suc n * 10 ^ suc (length bs) ≡ suc n * 10 * 10 ^ length bs = rw (pow-succ' 10 (length bs)) (sym (mul-assoc (suc n) 10 (10 ^ length bs))) in
+    omega (arith, digits-below x)
+
+-- six digits at most are below a million
+micros-below : (n k : ℕ) → k ≤ 6 → n < 10 ^ k → n * 10 ^ (6 - k) < 1000000
+micros-below n k h = within 6 (λ (k : ℕ). n < 10 ^ k → n * 10 ^ (6 - k) < 1000000) k h
+    (λ l. omega arith) (λ l. omega arith) (λ l. omega arith) (λ l. omega arith) (λ l. omega arith) (λ l. omega arith) (λ l. omega arith)
+
+-- a fraction is below a million microseconds
+fraction-below : {l : List ℕ} {n : ℕ} → FractionText l n → n < 1000000
+fraction-below whole = omega arith
+fraction-below (fraction {bs} {n} x f g) = micros-below n (length bs) g (omega (arith, digits-below x))
+
+-- a time has 32 bits of seconds
+time-possible : {l : List ℕ} {c : Comparison} {s m : ℕ} → TimeOperand l c s m → TimePossible s m
+time-possible x = record { word = record { below = x .whole-is .below }; fraction = fraction-below (x .rest-is) }
+
+-- ---- every test that is meant is possible
+
+-- for each test
+pub means-possible : {k : Name} {v : List ℕ} {x : Test} → StandsFor k v x → PossibleTest x
+means-possible (type x) = code-possible types-small x
+means-possible (attribute x) = code-possible attributes-small x
+means-possible (path x) = pattern-possible x
+means-possible (peer x) = peer-possible x
+means-possible (network x) = side-possible x
+means-possible (time x) = time-possible x

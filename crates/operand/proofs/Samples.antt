@@ -1,0 +1,92 @@
+-- For each test an operand and what it means: every rule is kept by some operand. Assumes nothing.
+use Prim.Native.Nat.{ℕ, _^_, _<_}
+use native.Mathlib.Omega.{arith}
+use mathlib.Core.Path.{_≡_, refl}
+use mathlib.Core.Bool.{false}
+use mathlib.Core.List.{List, [], _∷_}
+use Rattle.network.specs.Networks.{masked}
+use Rattle.aspath.specs.declared.Item.{Item}
+use Rattle.aspath.specs.declared.Item.the-variants.{Any}
+use Rattle.program.specs.Readings.{byAs, eitherSide, equal, Test, typeIs, hasAttribute, pathMatches, peerIs, networkIs, timeIs}
+use Rattle.token.specs.Texts.{none}
+use Rattle.operand.specs.Decimals.{Below, digit}
+use Rattle.operand.specs.Codes.{by-code}
+use Rattle.operand.specs.Peers.{by-as}
+use Rattle.operand.specs.Addresses.{plain}
+use Rattle.operand.specs.Patterns.{any, last}
+use Rattle.operand.specs.Times.{unsigned, whole}
+use Rattle.operand.specs.declared.Name.{Name}
+use Rattle.operand.specs.declared.Name.the-variants.{MessageType as typeName, Attribute as attributeName, Path as pathName, Peer as peerName, Time as timeName, Network as networkName}
+use Rattle.operand.specs.Tests.{StandsFor, type, attribute, path, peer, network, time}
+
+-- `.` for `-aspath`, `0.0.0.0/0` for a network, `0` for the others
+abbrev pub sampleText : Name → List ℕ
+sampleText typeName = 48 ∷ []
+sampleText attributeName = 48 ∷ []
+sampleText pathName = 46 ∷ []
+sampleText peerName = 48 ∷ []
+sampleText timeName = 48 ∷ []
+sampleText (networkName r) = 48 ∷ 46 ∷ 48 ∷ 46 ∷ 48 ∷ 46 ∷ 48 ∷ 47 ∷ 48 ∷ []
+
+abbrev pub sampleTest : Name → Test
+sampleTest typeName = typeIs 0
+sampleTest attributeName = hasAttribute 0
+sampleTest pathName = pathMatches (record { start = false; items = Any ∷ []; end = false })
+sampleTest peerName = peerIs (byAs 0)
+sampleTest timeName = timeIs equal 0 0
+sampleTest (networkName r) = networkIs r (masked 32 0 0) eitherSide
+
+-- `0` is 0
+zero-below : (limit : ℕ) → 0 < limit → Below limit (48 ∷ []) 0
+zero-below limit h = record { decimal = digit 0 (omega arith); below = h }
+
+-- what each of these means
+pub sample : (k : Name) → StandsFor k (sampleText k) (sampleTest k)
+sample typeName = type (by-code (zero-below 256 (omega arith)))
+sample attributeName = attribute (by-code (zero-below 256 (omega arith)))
+sample pathName =
+    path (record {
+      before = [];
+      between = [];
+      text = 46 ∷ [];
+      behind = [];
+      after = [];
+      joined = refl;
+      before-blank = none;
+      between-blank = none;
+      behind-blank = none;
+      after-blank = none;
+      items-are = last any;
+      some = λ s e i. no-item i;
+    })
+  where
+    no-item : _≡_ {A = List Item} (Any ∷ []) [] → ⊥
+    no-item e = let z : _≡_ {A = ℕ} 0 1 = cc in omega arith
+sample peerName = peer (by-as (zero-below (2 ^ 32) (omega arith)))
+sample timeName = time (record { sign = []; whole = 48 ∷ []; rest = []; joined = refl; sign-is = unsigned; whole-is = zero-below (2 ^ 32) (omega arith); rest-is = whole })
+sample (networkName r) =
+    network (plain (record {
+      address = 0;
+      len = 0;
+      addressText = 48 ∷ 46 ∷ 48 ∷ 46 ∷ 48 ∷ 46 ∷ 48 ∷ [];
+      lenText = 48 ∷ [];
+      joined = refl;
+      address-is = record {
+        a = 0;
+        b = 0;
+        c = 0;
+        d = 0;
+        aText = 48 ∷ [];
+        bText = 48 ∷ [];
+        cText = 48 ∷ [];
+        dText = 48 ∷ [];
+        joined = refl;
+        a-is = zero-below 256 (omega arith);
+        b-is = zero-below 256 (omega arith);
+        c-is = zero-below 256 (omega arith);
+        d-is = zero-below 256 (omega arith);
+        value = refl;
+      };
+      len-is = zero-below 33 (omega arith);
+      value = refl;
+    }))

@@ -1,0 +1,80 @@
+-- Addresses and networks.
+use Prim.Native.Nat.{ℕ, _+_, _*_}
+use mathlib.Core.Path.{_≡_}
+use mathlib.Core.Option.{Option, some}
+use mathlib.Core.List.{List, _∷_, _++_}
+use lib.Dec.{eqb}
+use lib.ListN.{getD, drop}
+use Rattle.octets.specs.Choice.{pick}
+use Rattle.network.specs.declared.Network.{Network}
+use Rattle.network.specs.Networks.{masked}
+use Rattle.program.specs.Readings.{Side, eitherSide, announced, withdrawn}
+use Rattle.operand.specs.Fronts.{onward, Read, read, ended, after}
+use Rattle.operand.specs.Decimals.{Below, numeral, number}
+
+-- `a.b.c.d`, each part 0 to 255
+pub record Address (bs : List ℕ) (address : ℕ) : Type 0 where
+  pub a : ℕ
+  pub b : ℕ
+  pub c : ℕ
+  pub d : ℕ
+  pub aText : List ℕ
+  pub bText : List ℕ
+  pub cText : List ℕ
+  pub dText : List ℕ
+  pub joined : bs ≡ aText ++ (46 ∷ (bText ++ (46 ∷ (cText ++ (46 ∷ dText)))))
+  pub a-is : Below 256 aText a
+  pub b-is : Below 256 bText b
+  pub c-is : Below 256 cText c
+  pub d-is : Below 256 dText d
+  pub value : address ≡ ((a * 256 + b) * 256 + c) * 256 + d
+
+-- `a.b.c.d/len`, len 0 to 32; bits past len are cleared
+pub record NetworkText (bs : List ℕ) (n : Network) : Type 0 where
+  pub address : ℕ
+  pub len : ℕ
+  pub addressText : List ℕ
+  pub lenText : List ℕ
+  pub joined : bs ≡ addressText ++ (47 ∷ lenText)
+  pub address-is : Address addressText address
+  pub len-is : Below 33 lenText len
+  pub value : n ≡ masked 32 address len
+
+-- a leading `+` means announcements only, `-` withdrawals only
+pub data NetworkOperand : List ℕ → Side → Network → Type 0 where
+  plain : {bs : List ℕ} {n : Network} → NetworkText bs n → NetworkOperand bs eitherSide n
+  plus : {bs : List ℕ} {n : Network} → NetworkText bs n → NetworkOperand (43 ∷ bs) announced n
+  minus : {bs : List ℕ} {n : Network} → NetworkText bs n → NetworkOperand (45 ∷ bs) withdrawn n
+
+-- ---- what the code computes
+
+unfoldable pub part : List ℕ → Option (Read ℕ)
+part l = onward (number 256 l) (λ n. onward (after 46 (n .rest)) (λ r. some (read (n .value) r)))
+
+unfoldable pub addressRead : List ℕ → Option (Read ℕ)
+addressRead l =
+    onward (part l) (λ a. onward (part (a .rest)) (λ b. onward (part (b .rest)) (λ c. onward (number 256 (c .rest)) (λ d.
+    some (read (((a .value * 256 + b .value) * 256 + c .value) * 256 + d .value) (d .rest))))))
+
+-- the address that these bytes write
+unfoldable pub addressOf : List ℕ → Option ℕ
+addressOf l = onward (addressRead l) (λ a. ended (a .rest) (a .value))
+
+unfoldable pub networkText : List ℕ → Option Network
+networkText l = onward (addressRead l) (λ a. onward (after 47 (a .rest)) (λ r. onward (numeral 33 r) (λ n. some (masked 32 (a .value) n))))
+
+pub record Sided : Type 0 where
+  pub side : Side
+  pub network : Network
+
+-- a network on a side
+abbrev pub sided : Side → Network → Sided
+sided s n = record { side = s; network = n }
+
+-- a network on one side
+abbrev pub sideOf : Side → List ℕ → Option Sided
+sideOf s l = onward (networkText l) (λ n. some (sided s n))
+
+-- by the first byte
+unfoldable pub networkOperand : List ℕ → Option Sided
+networkOperand l = pick (eqb (getD l 0 0) 43) (sideOf announced (drop 1 l)) (pick (eqb (getD l 0 0) 45) (sideOf withdrawn (drop 1 l)) (sideOf eitherSide l))

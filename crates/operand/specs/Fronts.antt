@@ -1,0 +1,51 @@
+-- Reading from the front of bytes, as the code goes: what was read, and what is left behind it.
+use Prim.Native.Nat.{ℕ}
+use mathlib.Core.Bool.{Bool, true, false}
+use mathlib.Core.Option.{Option, none, some}
+use mathlib.Core.List.{List, [], _∷_}
+use lib.Dec.{eqb}
+use Rattle.octets.specs.Choice.{pick}
+
+-- go on with an answer
+abbrev pub onward : {A B : Type 0} → Option A → (A → Option B) → Option B
+onward none f = none
+onward (some a) f = f a
+
+-- the first of two answers
+abbrev pub orElse : {A : Type 0} → Option A → Option A → Option A
+orElse none o = o
+orElse (some a) o = some a
+
+-- what was read at the front, and what is left behind it
+pub record Read (A : Type 0) : Type 0 where
+  pub value : A
+  pub rest : List ℕ
+
+abbrev pub read : {A : Type 0} → A → List ℕ → Read A
+read a r = record { value = a; rest = r }
+
+-- what was read, if nothing is left
+abbrev pub ended : {A : Type 0} → List ℕ → A → Option A
+ended [] a = some a
+ended (b ∷ bs) a = none
+
+-- what is left behind the byte b
+unfoldable pub after : ℕ → List ℕ → Option (List ℕ)
+after b [] = none
+after b (x ∷ xs) = pick (eqb x b) (some xs) none
+
+-- whether the byte b stands at the front
+abbrev pub chosen : List ℕ → Option (List ℕ) → Read Bool
+chosen l none = read false l
+chosen l (some r) = read true r
+
+unfoldable pub optional : ℕ → List ℕ → Read Bool
+optional b l = chosen l (after b l)
+
+-- the run, and what is left
+unfoldable pub cut : (ℕ → Bool) → List ℕ → Read (List ℕ)
+cut p [] = read [] []
+cut p (b ∷ bs) = pick (p b) (read (b ∷ cut p bs .value) (cut p bs .rest)) (read [] (b ∷ bs))
+
+unfoldable pub isBlank : ℕ → Bool
+isBlank b = pick (eqb b 32) true (pick (eqb b 9) true (eqb b 10))

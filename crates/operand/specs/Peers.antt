@@ -1,0 +1,33 @@
+-- `-peer`: AS number, address, or address, blanks, AS number.
+use Prim.Native.Nat.{ℕ, _^_, _≤_}
+use mathlib.Core.Path.{_≡_}
+use mathlib.Core.Option.{Option, none, some}
+use mathlib.Core.List.{List, [], _∷_, _++_}
+use lib.ListN.{length}
+use Rattle.octets.specs.Choice.{pick}
+use Rattle.program.specs.Readings.{Peer, byAs, byAddress, byBoth}
+use Rattle.token.specs.Texts.{Blank, Every}
+use Rattle.operand.specs.Fronts.{onward, Read, cut, isBlank}
+use Rattle.operand.specs.Decimals.{AsNumber, numeral}
+use Rattle.operand.specs.Addresses.{Address, addressRead}
+
+pub data PeerOperand : List ℕ → Peer → Type 0 where
+  by-as : {bs : List ℕ} {n : ℕ} → AsNumber bs n → PeerOperand bs (byAs n)
+  by-address : {bs : List ℕ} {a : ℕ} → Address bs a → PeerOperand bs (byAddress a)
+  by-both : {bs gap cs l : List ℕ} {a n : ℕ} → Address bs a → Every Blank gap → 1 ≤ length gap → AsNumber cs n → l ≡ bs ++ (gap ++ cs)
+      → PeerOperand l (byBoth a n)
+
+-- ---- what the code computes
+
+-- behind an address: nothing, or blanks and a number
+unfoldable pub behindAddress : ℕ → List ℕ → Option Peer
+behindAddress a [] = some (byAddress a)
+behindAddress a (b ∷ bs) = pick (isBlank b) (onward (numeral (2 ^ 32) (cut isBlank bs .rest)) (λ n. some (byBoth a n))) none
+
+-- by the address at the front, if there is one
+abbrev pub peerBy : List ℕ → Option (Read ℕ) → Option Peer
+peerBy l none = onward (numeral (2 ^ 32) l) (λ n. some (byAs n))
+peerBy l (some a) = behindAddress (a .value) (a .rest)
+
+unfoldable pub peerOperand : List ℕ → Option Peer
+peerOperand l = peerBy l (addressRead l)

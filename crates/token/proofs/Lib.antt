@@ -1,0 +1,11 @@
+pub mod Again
+pub mod AllowedBytes
+pub mod ByteSorts
+pub mod ByteTests
+pub mod LexPlaces
+pub mod LexSound
+pub mod Lexer
+pub mod Lexing
+pub mod NextSteps
+pub mod Nexts
+pub mod Runs

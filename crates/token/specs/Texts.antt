@@ -1,0 +1,36 @@
+-- Texts: their size and bytes.
+use Prim.Native.Nat.{ℕ, _≤_}
+use mathlib.Core.Bool.{Bool, true, false}
+use mathlib.Core.List.{List, [], _∷_}
+use lib.Dec.{leb, eqb}
+use Rattle.octets.specs.Choice.{pick}
+
+-- the most bytes of a text, and the most levels open at once
+abbrev pub textLimit : ℕ
+textLimit = 4096
+
+abbrev pub levelLimit : ℕ
+levelLimit = 32
+
+-- a blank: space, tab, LF
+pub data Blank : ℕ → Type 0 where
+  space : Blank 32
+  tab : Blank 9
+  lineFeed : Blank 10
+
+-- a byte that a text may have: 0x20 to 0x7E, tab or LF
+pub data Allowed : ℕ → Type 0 where
+  printed : {b : ℕ} → 32 ≤ b → b ≤ 126 → Allowed b
+  tab : Allowed 9
+  lineFeed : Allowed 10
+
+-- every member is so
+pub data Every (P : ℕ → Type 0) : List ℕ → Type 0 where
+  none : Every P []
+  more : {b : ℕ} {bs : List ℕ} → P b → Every P bs → Every P (b ∷ bs)
+
+-- ---- what the code computes
+
+-- 0x20 to 0x7E, tab or LF
+abbrev pub allowed : ℕ → Bool
+allowed b = pick (eqb b 9) true (pick (eqb b 10) true (pick (leb 32 b) (leb b 126) false))

@@ -1,0 +1,213 @@
+// Tokens of a text: the next one from a place on, its bytes, the first forbidden byte and the quote that isn't closed.
+ghost use mathlib.Core.Path.{_≡_};
+ghost use Prim.Native.Nat.{_+_, _-_, _<_};
+ghost use lib.ListN.{length};
+ghost use Rattle.token.specs.Texts.{allowed};
+ghost use Rattle.token.specs.Next.{isBlank, isLetter, isIn, runEnd, lexeme, quoteAt, startAt, nextAt, part, bytesIn, allowedFront, unclosedAt};
+
+// What stands at a place: nothing up to the end, a token, or a quote that isn't closed.
+pub enum Kind {
+    End,
+    Open,
+    Close,
+    Bang,
+    Word,
+    Quoted,
+    Unclosed,
+}
+
+// A kind, the place of its first byte and the place behind its last.
+pub struct Lexeme {
+    pub kind: Kind,
+    pub start: usize,
+    pub end: usize,
+}
+
+// Bytes that are passed over together, up to the first that is none of them.
+enum Run {
+    Blanks,
+    Letters,
+    Inner,
+    Allowed,
+}
+
+fn blank(b: u8) -> bool
+    ensures { λ r. ⌜ r ≡ isBlank b ⌝ }
+{
+    if b == b' ' {
+        return true;
+    }
+    if b == b'\t' {
+        return true;
+    }
+    b == b'\n'
+}
+
+fn letter(b: u8) -> bool
+    ensures { λ r. ⌜ r ≡ isLetter b ⌝ }
+{
+    if b == b'(' {
+        return false;
+    }
+    if b == b')' {
+        return false;
+    }
+    if b == b'!' {
+        return false;
+    }
+    if b == b'\'' {
+        return false;
+    }
+    !blank(b)
+}
+
+fn permitted(b: u8) -> bool
+    ensures { λ r. ⌜ r ≡ allowed b ⌝ }
+{
+    if b == 0x09 {
+        return true;
+    }
+    if b == 0x0A {
+        return true;
+    }
+    if b < 0x20 {
+        return false;
+    }
+    b <= 0x7E
+}
+
+// Whether a run goes on with a byte.
+fn goes_on(run: Run, b: u8) -> bool
+    ensures { λ r. ⌜ r ≡ isIn run b ⌝ }
+{
+    match run {
+        Run::Blanks => blank(b),
+        Run::Letters => letter(b),
+        Run::Inner => b != b'\'',
+        Run::Allowed => permitted(b),
+    }
+}
+
+// Where a run from a place on ends.
+fn run_end(text: &[u8], at: usize, run: Run) -> usize
+    ensures { λ r. ⌜ r ≡ runEnd (isIn run) (now (text .entry)) at ⌝ }
+{
+    let mut i = at;
+    while i < text.len() {
+        if !goes_on(run, text[i]) {
+            return i;
+        }
+        i += 1;
+    }
+    i
+}
+
+fn span(kind: Kind, start: usize, end: usize) -> Lexeme
+    ensures { λ r. ⌜ r ≡ lexeme kind start end ⌝ }
+{
+    Lexeme { kind, start, end }
+}
+
+// From a quote up to the one that closes it.
+fn quote(text: &[u8], start: usize) -> Lexeme
+    requires { ⌜ start < length (now text) ⌝ }
+    ensures { λ r. ⌜ r ≡ quoteAt (now (text .entry)) start ⌝ }
+{
+    let inner = start + 1;
+    let end = run_end(text, inner, Run::Inner);
+    if text.len() <= end {
+        return span(Kind::Unclosed, start, text.len());
+    }
+    span(Kind::Quoted, start, end + 1)
+}
+
+// What begins at a place where no blank stands.
+fn begins(text: &[u8], start: usize) -> Lexeme
+    ensures { λ r. ⌜ r ≡ startAt (now (text .entry)) start ⌝ }
+{
+    if text.len() <= start {
+        return span(Kind::End, text.len(), text.len());
+    }
+    let b = text[start];
+    if b == b'(' {
+        return span(Kind::Open, start, start + 1);
+    }
+    if b == b')' {
+        return span(Kind::Close, start, start + 1);
+    }
+    if b == b'!' {
+        return span(Kind::Bang, start, start + 1);
+    }
+    if b != b'\'' {
+        let end = run_end(text, start, Run::Letters);
+        return span(Kind::Word, start, end);
+    }
+    quote(text, start)
+}
+
+// The next token from a place on.
+pub fn next(text: &[u8], at: usize) -> Lexeme
+    ensures { λ r. ⌜ r ≡ nextAt (now (text .entry)) at ⌝ }
+{
+    let start = run_end(text, at, Run::Blanks);
+    begins(text, start)
+}
+
+// What a text holds from a place up to another.
+fn between(text: &[u8], start: usize, end: usize) -> &[u8]
+    ensures { λ r. ⌜ now r ≡ part (now (text .entry)) start end ⌝ }
+{
+    if end <= start {
+        return &text[..0];
+    }
+    octets::part(text, start, end - start)
+}
+
+// What a text holds from a place up to another without the first and the last byte, which are quotes.
+fn inside(text: &[u8], start: usize, end: usize) -> &[u8]
+    ensures { λ r. ⌜ now r ≡ part (now (text .entry)) (start + 1) (end - 1) ⌝ }
+{
+    if end <= start {
+        return &text[..0];
+    }
+    between(text, start + 1, end - 1)
+}
+
+// The bytes of a word, and those between the quotes of a quoted token.
+pub fn bytes(text: &[u8], lexeme: Lexeme) -> &[u8]
+    ensures { λ r. ⌜ now r ≡ bytesIn (now (text .entry)) lexeme ⌝ }
+{
+    let kind = lexeme.kind;
+    match kind {
+        Kind::End => &text[..0],
+        Kind::Open => &text[..0],
+        Kind::Close => &text[..0],
+        Kind::Bang => &text[..0],
+        Kind::Word => between(text, lexeme.start, lexeme.end),
+        Kind::Quoted => inside(text, lexeme.start, lexeme.end),
+        Kind::Unclosed => &text[..0],
+    }
+}
+
+// The place of the first forbidden byte, the length where there is none.
+pub fn forbidden(text: &[u8]) -> usize
+    ensures { λ r. ⌜ r ≡ allowedFront (now (text .entry)) ⌝ }
+{
+    run_end(text, 0, Run::Allowed)
+}
+
+// The place of the quote that isn't closed, the length where there is none: that is where an End ends.
+pub fn unclosed(text: &[u8]) -> usize
+    ensures { λ r. ⌜ r ≡ unclosedAt (now (text .entry)) ⌝ }
+{
+    let mut at = 0;
+    while at < text.len() {
+        let found = next(text, at);
+        let kind = found.kind;
+        if let Kind::Unclosed = kind {
+            return found.start;
+        }
+        at = found.end;
+    }
+    at
+}
