@@ -5,7 +5,7 @@ use native.Mathlib.Decide.{decLe}
 use native.Mathlib.Omega.{arith}
 use mathlib.Core.Path.{_≡_, refl, sym, ap, _∙_}
 use mathlib.Core.Bool.{Bool, true, false}
-use mathlib.Core.Logic.{⊎-elim, inl, inr, _↔_, Iff·and, Iff·trans}
+use mathlib.Core.Logic.{⊎-elim, inl, inr, _↔_}
 use lib.Bits.{bitXor, xor-add-and, and-le-l, and-le-r, xor-self, xor-shr, xor-lt}
 use lib.Count.{leadingZeros, leading-length, leading-le}
 use lib.Pow.{pow-pos, pow-mono, split, shr-shr}
@@ -116,34 +116,44 @@ pub agree-means : (w len a b : ℕ) → len ≤ w → a < 2 ^ w → b < 2 ^ w �
 unfolding agree
 agree-means w len a b h ha hb = (λ e. agree-first w len a b h (eqb-true _ _ e), λ f. eq-eqb _ _ (first-agree w len a b h ha hb f))
 
+-- a network that was found to cover another covers it, whatever the addresses are
+covers-sound : (w : ℕ) (a b : Network) → covers w a b ≡ true → Covers w a b
+unfolding covers agree
+covers-sound w a b e =
+    let p = pick-both _ _ .0 e in
+    let q = pick-both _ _ .0 (p .1) in
+    let h = leb-true (a .len) w (p .0) in
+    record { sized = h; shorter = leb-true (a .len) (b .len) (q .0); first = agree-first w (a .len) (a .address) (b .address) h (eqb-true _ _ (q .1)) }
+
 -- a network covers another exactly where the test says so
 pub covers-means : (w : ℕ) (a b : Network) → a .address < 2 ^ w → b .address < 2 ^ w → (covers w a b ≡ true) ↔ Covers w a b
 unfolding covers
 covers-means w a b ha hb = (
-  so,
+  covers-sound w a b,
   λ c.
       pick-both _ _ .1
       (le-leb _ _ (c .sized), pick-both _ _ .1 (le-leb _ _ (c .shorter), agree-means w (a .len) (a .address) (b .address) (c .sized) ha hb .1 (c .first))),
 )
-  where
-    so : covers w a b ≡ true → Covers w a b
-    so e =
-        let p = pick-both _ _ .0 e in
-        let q = pick-both _ _ .0 (p .1) in
-        let h = leb-true (a .len) w (p .0) in
-        record { sized = h; shorter = leb-true (a .len) (b .len) (q .0); first = agree-means w (a .len) (a .address) (b .address) h ha hb .0 (q .1) }
+
+-- a prefix that was found to stand to an operand as a relation says does, whatever the addresses are
+pub relates-sound : (w : ℕ) (r : Relation) (operand prefix : Network) → relates w r operand prefix ≡ true → Relates w r operand prefix
+unfolding relates Relates
+relates-sound w Exact o p e = let b = pick-both _ _ .0 e in (eqb-true _ _ (b .0), eqb-true _ _ (b .1))
+relates-sound w Supernet o p e = covers-sound w p o e
+relates-sound w Subnet o p e = covers-sound w o p e
+relates-sound w Related o p e = ⊎-elim (λ k. inl (covers-sound w p o k)) (λ k. inr (covers-sound w o p k)) (pick-either _ _ .0 e)
+
+-- and none is missed
+pub relates-complete : (w : ℕ) (r : Relation) (operand prefix : Network) → operand .address < 2 ^ w → prefix .address < 2 ^ w
+    → Relates w r operand prefix → relates w r operand prefix ≡ true
+unfolding relates Relates
+relates-complete w Exact o p ho hp c = pick-both _ _ .1 (eq-eqb _ _ (c .0), eq-eqb _ _ (c .1))
+relates-complete w Supernet o p ho hp c = covers-means w p o hp ho .1 c
+relates-complete w Subnet o p ho hp c = covers-means w o p ho hp .1 c
+relates-complete w Related o p ho hp c =
+    pick-either _ _ .1 (⊎-elim (λ k. inl (covers-means w p o hp ho .1 k)) (λ k. inr (covers-means w o p ho hp .1 k)) c)
 
 -- a prefix stands to an operand as a relation says exactly where the test says so
 pub relates-means : (w : ℕ) (r : Relation) (operand prefix : Network) → operand .address < 2 ^ w → prefix .address < 2 ^ w
     → (relates w r operand prefix ≡ true) ↔ Relates w r operand prefix
-unfolding relates Relates
-relates-means w Exact o p ho hp = Iff·trans (pick-both _ _) (Iff·and (eqb-true _ _, eq-eqb _ _) (eqb-true _ _, eq-eqb _ _))
-relates-means w Supernet o p ho hp = covers-means w p o hp ho
-relates-means w Subnet o p ho hp = covers-means w o p ho hp
-relates-means w Related o p ho hp =
-    let up = covers-means w p o hp ho in
-    let down = covers-means w o p ho hp in (
-      λ e. ⊎-elim (λ k. inl (up .0 k)) (λ k. inr (down .0 k)) (pick-either _ _ .0 e),
-      λ c.
-          pick-either _ _ .1 (⊎-elim (λ k. inl (up .1 k)) (λ k. inr (down .1 k)) c),
-    )
+relates-means w r o p ho hp = (relates-sound w r o p, relates-complete w r o p ho hp)

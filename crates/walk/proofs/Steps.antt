@@ -1,6 +1,7 @@
--- Laws of single steps: which case holds at a place, where a record or a rest stands, and that the walk stays after done and cut. Assumes nothing.
+-- Laws of single steps: which case holds at a place, that the next place keeps a bound, where a record or a rest stands, and that the walk stays after done and cut. Assumes nothing.
 use Prim.Native.Nat.{ℕ, zero, suc, _+_, _-_, _≤_, _<_}
-use native.Mathlib.Nat.{add-zero, add-suc}
+use native.Mathlib.Nat.{add-zero, add-suc, lt-of-not-le}
+use native.Mathlib.Decide.{decLe}
 use native.Mathlib.Omega.{arith}
 use mathlib.Core.Path.{_≡_, refl, sym, ap, _∙_}
 use mathlib.Core.List.{List, [], _∷_, _++_}
@@ -44,6 +45,16 @@ step-whole s at h =
     let j : headerSize ≤ length s - at = omega arith in
     let k : numberAt s (at + 8) 4 ≤ length s - at - headerSize = omega arith in
     simp (lt-leb _ _ i, le-ltb _ _ j, le-ltb _ _ k)
+
+-- a step from below a bound that the bytes keep goes on below it
+pub place-below : (s : List ℕ) (at n : ℕ) → length s < n → at < n → placeAfter (stepAt s at) at < n
+place-below s at n h k = go (decLe (length s) at) (decLe headerSize (length s - at)) (decLe (headerSize + numberAt s (at + 8) 4) (length s - at))
+  where
+    go : Dec (length s ≤ at) → Dec (headerSize ≤ length s - at) → Dec (headerSize + numberAt s (at + 8) 4 ≤ length s - at) → placeAfter (stepAt s at) at < n
+    go (yes i) d f = rw (step-past s at i) k
+    go (no i) (no j) f = rw (step-short s at (lt-of-not-le i) (lt-of-not-le j)) k
+    go (no i) (yes j) (no l) = rw (step-overrun s at j (lt-of-not-le l)) k
+    go (no i) (yes j) (yes l) = rw (step-whole s at l) (omega arith)
 
 -- ---- where a record or a rest stands
 

@@ -1,0 +1,4 @@
+pub mod Means
+pub mod Records
+pub mod Verdict
+pub mod Matching

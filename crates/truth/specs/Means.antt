@@ -1,0 +1,116 @@
+-- What each test means on a message.
+use Prim.Native.Nat.{ℕ, _+_, _*_, _≤_, _<_}
+use mathlib.Core.Path.{_≡_}
+use mathlib.Core.Bool.{Bool, true, false}
+use mathlib.Core.Option.{Option, some, none}
+use mathlib.Core.List.{List, [], _∷_, _++_}
+use lib.ListN.{length, getD}
+use lib.Dec.{eqb, leb, ltb}
+use Rattle.octets.specs.Choice.{pick}
+use Rattle.network.specs.declared.Network.{Network}
+use Rattle.network.specs.declared.Relation.{Relation}
+use Rattle.network.specs.Networks.{Relates, relates}
+use Rattle.aspath.specs.Members.{Segment, Member, members}
+use Rattle.aspath.specs.Loops.{Loop}
+use Rattle.aspath.specs.Loops as loops
+use Rattle.aspath.specs.Bogons.{HasBogon, someBogon}
+use Rattle.aspath.specs.Patterns.{Pattern, Matches, matches}
+use Rattle.attributes.specs.Attribute.{Attribute, atomicAggregate, codeOf, firstOf, askPath}
+use Rattle.message.specs.Message.{Message, update}
+use Rattle.message.specs.Represents.{addressBits}
+use Rattle.program.specs.Readings.{Peer, byAs, byAddress, byBoth, Side, eitherSide, announced, withdrawn, Comparison, equal, below, atMost, above, atLeast, Test, typeIs, hasAttribute, pathMatches, peerIs, hasLoop, hasBogon, networkIs, timeIs}
+
+-- the path of an UPDATE that has an AS_PATH
+pub record HasPath (m : Message) (path : List Member) : Type 0 where
+  pub is-update : m .kind ≡ update
+  pub segments : List Segment
+  pub present : firstOf askPath (m .attributes) ≡ some segments
+  pub joined : members segments ≡ path
+
+-- an UPDATE with an attribute of a code
+pub record HasCode (m : Message) (code : ℕ) : Type 0 where
+  pub is-update : m .kind ≡ update
+  pub place : ℕ
+  pub within : place < length (m .attributes)
+  pub coded : codeOf (getD (m .attributes) place atomicAggregate) ≡ code
+
+-- the prefixes that a network test looks at
+abbrev pub prefixesOn : Side → Message → List Network
+prefixesOn eitherSide m = m .announced ++ m .withdrawn
+prefixesOn announced m = m .announced
+prefixesOn withdrawn m = m .withdrawn
+
+-- an UPDATE with a prefix that stands so to a network
+pub record HasPrefix (m : Message) (r : Relation) (operand : Network) (s : Side) : Type 0 where
+  pub is-update : m .kind ≡ update
+  pub place : ℕ
+  pub within : place < length (prefixesOn s m)
+  pub relates : Relates addressBits r operand (getD (prefixesOn s m) place operand)
+
+abbrev pub Compares : Comparison → ℕ → ℕ → Type 0
+Compares equal a b = a ≡ b
+Compares below a b = a < b
+Compares atMost a b = a ≤ b
+Compares above a b = b < a
+Compares atLeast a b = b ≤ a
+
+-- a second in microseconds
+abbrev pub second : ℕ
+second = 1000000
+
+-- a test is true of a message
+pub data Means (m : Message) : Test → Type 0 where
+  type : {code : ℕ} → m .kind ≡ code → Means m (typeIs code)
+  attribute : {code : ℕ} → HasCode m code → Means m (hasAttribute code)
+  path : {p : Pattern} {members : List Member} → HasPath m members → Matches p members → Means m (pathMatches p)
+  peerNumber : {n : ℕ} → m .peerAs ≡ n → Means m (peerIs (byAs n))
+  peerAddress : {a : ℕ} → m .peerAddress ≡ a → Means m (peerIs (byAddress a))
+  peerBoth : {a n : ℕ} → m .peerAddress ≡ a → m .peerAs ≡ n → Means m (peerIs (byBoth a n))
+  loop : {members : List Member} → HasPath m members → Loop members → Means m hasLoop
+  bogon : {members : List Member} → HasPath m members → HasBogon members → Means m hasBogon
+  network : {r : Relation} {n : Network} {s : Side} → HasPrefix m r n s → Means m (networkIs r n s)
+  -- a record's own fraction is 0
+  time : {c : Comparison} {seconds micros : ℕ} → Compares c (m .seconds * second) (seconds * second + micros) → Means m (timeIs c seconds micros)
+
+-- ---- what the code computes
+
+abbrev pub all : Bool → Bool → Bool
+all a b = pick a b false
+
+abbrev pub isUpdate : Message → Bool
+isUpdate m = eqb (m .kind) update
+
+unfoldable pub someCode : ℕ → List Attribute → Bool
+someCode code [] = false
+someCode code (a ∷ more) = pick (eqb (codeOf a) code) true (someCode code more)
+
+abbrev pub onSegments : Option (List Segment) → (List Member → Bool) → Bool
+onSegments none test = false
+onSegments (some segments) test = test (members segments)
+
+-- a test of the path
+unfoldable pub onPath : Message → (List Member → Bool) → Bool
+onPath m test = all (isUpdate m) (onSegments (firstOf askPath (m .attributes)) test)
+
+unfoldable pub somePrefix : Relation → Network → List Network → Bool
+somePrefix r operand [] = false
+somePrefix r operand (n ∷ more) = pick (relates addressBits r operand n) true (somePrefix r operand more)
+
+abbrev pub compares : Comparison → ℕ → ℕ → Bool
+compares equal a b = eqb a b
+compares below a b = ltb a b
+compares atMost a b = leb a b
+compares above a b = ltb b a
+compares atLeast a b = leb b a
+
+unfoldable pub isTrue : Message → Test → Bool
+isTrue m (typeIs code) = eqb (m .kind) code
+isTrue m (hasAttribute code) = all (isUpdate m) (someCode code (m .attributes))
+isTrue m (pathMatches p) = onPath m (matches p)
+isTrue m (peerIs (byAs n)) = eqb (m .peerAs) n
+isTrue m (peerIs (byAddress a)) = eqb (m .peerAddress) a
+isTrue m (peerIs (byBoth a n)) = all (eqb (m .peerAddress) a) (eqb (m .peerAs) n)
+isTrue m hasLoop = onPath m loops.hasLoop
+isTrue m hasBogon = onPath m someBogon
+isTrue m (networkIs r n s) = all (isUpdate m) (somePrefix r n (prefixesOn s m))
+isTrue m (timeIs c seconds micros) = compares c (m .seconds * second) (seconds * second + micros)
