@@ -6,7 +6,7 @@ use mathlib.Core.List.{List, [], _∷_}
 use lib.Dec.{leb}
 use Rattle.octets.specs.Choice.{pick}
 use Rattle.aspath.specs.declared.Range.{Range}
-use Rattle.aspath.specs.Bogons.{bogons, inSome, isBogon}
+use Rattle.aspath.specs.Bogons.{bogons}
 
 -- the first range starts at n or later, ends no earlier than it starts, and the others follow from past its end on
 unfoldable pub ordered : ℕ → List Range → Bool
@@ -17,13 +17,3 @@ ordered n (r ∷ rs) = pick (leb n (r .low)) (pick (leb (r .low) (r .high)) (ord
 pub table-ordered : ordered 0 bogons ≡ true
 unfolding ordered bogons
 table-ordered = refl
-
--- the last number that was reserved after 16 bits
-pub last-reserved : isBogon 131071 ≡ true
-unfolding isBogon bogons inSome
-last-reserved = refl
-
--- the first after it
-pub first-assigned : isBogon 131072 ≡ false
-unfolding isBogon bogons inSome
-first-assigned = refl

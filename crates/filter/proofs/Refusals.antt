@@ -16,7 +16,8 @@ use Rattle.filter.specs.Answers.{Alive, Leads, Stands}
 use Rattle.filter.specs.Reader.{Hole, depth, State, want, operand, have, level, Why, bad, broken, deep, Move, takes, opens, stuck, breaks, Step, go, stop, came, Answer, ok, refused, fill, admit, follow, finish, conclude, answered, start, move, step, walk, read}
 use Rattle.filter.proofs.Walks.{no-came, step-takes, step-opens, walk-go, walk-stop, walk-takes, walk-join, walk-split, wider}
 use Rattle.filter.proofs.Complete.{name-moves, derived-walks, complete}
-use Rattle.filter.proofs.Leveled.{Opener, Leveled, move-level, walk-within}
+use Rattle.filter.specs.Refused.{Opener}
+use Rattle.filter.proofs.Leveled.{Leveled, move-level, walk-within}
 use Rattle.filter.proofs.Agree.{levels-within, reached, open-one}
 use Rattle.filter.proofs.Sound.{Moved, Ended, move-at, finish-at, walk-at}
 use Rattle.filter.proofs.Endings.{leads, opened, stands}

@@ -11,50 +11,9 @@ use Rattle.token.proofs.LexPlaces.{unclosed-within}
 use Rattle.filter.specs.Grammar.{expression, Reads}
 use Rattle.filter.specs.Levels.{Open}
 use Rattle.filter.specs.Answers.{Alive, Leads, Stands, bare, Reaches, refused, Answers, too-long, forbidden, unclosed, bad-token, bad-end, bad-operand, too-deep, too-heavy, no-room}
-use Rattle.filter.proofs.Leveled.{Opener}
+use Rattle.filter.specs.Refused.{Placement, size, weight, room, within, at-end, FirstToken, FirstRefused, a-token, the-end, an-operand, a-level}
 use Rattle.filter.proofs.Refusals.{leads-alive, earlier, deep-ends, deep-opener}
 use Rattle.filter.proofs.TokenBytes.{Stood, lexes-stood, every-one, stood-within}
-
--- ---- in words
-
--- where a refusal with a number stands: 1, 7 and 8 at the place 0, the others within the text; and 4 also at the text's end
-pub data Placement (text : List ℕ) : ℕ → ℕ → Type 0 where
-  size : Placement text 1 0
-  weight : Placement text 7 0
-  room : Placement text 8 0
-  within : {n p : ℕ} → 2 ≤ n → n ≤ 6 → p < length text → Placement text n p
-  at-end : Placement text 4 (length text)
-
--- t is the first token of the text that is refused, at its place; ts stand before it: every beginning of these leads on, and with t they don't
-pub record FirstToken (text : List ℕ) (ts : List Token) (t : Token) (place : ℕ) : Type 0 where
-  pub front : List Placed
-  pub back : List Placed
-  pub lexed : Lexes 0 text (front ++ (placed place t ∷ back))
-  pub tokens : bare front ≡ ts
-  pub leads : (xs ys : List Token) → ts ≡ xs ++ ys → Leads levelLimit xs
-  pub ends : Leads levelLimit (ts ++ (t ∷ [])) → ⊥
-  pub within : place < length text
-  -- the place is the token's first byte
-  pub bytes : Stood 0 text (placed place t)
-
--- every beginning of the text's tokens leads on, but they are no expression
-pub record DeadEnd (text : List ℕ) : Type 0 where
-  pub tokens : List Placed
-  pub lexed : Lexes 0 text tokens
-  pub leads : (xs ys : List Token) → bare tokens ≡ xs ++ ys → Leads levelLimit xs
-  pub unread : (r : Reading) → Reads expression (bare tokens) r → ⊥
-
--- what 4, 5 and 6 are given for, and where
-pub data FirstRefused (text : List ℕ) : ℕ → ℕ → Type 0 where
-  -- 4: no continuation allows the token, and it is no operand; or the end
-  a-token : {ts : List Token} {t : Token} {p : ℕ} → FirstToken text ts t p → (Alive (ts ++ (t ∷ [])) → ⊥) → (Stands ts t → ⊥) → FirstRefused text 4 p
-  the-end : DeadEnd text → FirstRefused text 4 (length text)
-  -- 5: no continuation allows the token, and it is an operand
-  an-operand : {ts : List Token} {t : Token} {p : ℕ} → FirstToken text ts t p → (Alive (ts ++ (t ∷ [])) → ⊥) → Stands ts t → FirstRefused text 5 p
-  -- 6: the token is a `(` or a `!`, and opens level 33
-  a-level : {ts : List Token} {t : Token} {p : ℕ} → FirstToken text ts t p → Opener t → Open (ts ++ (t ∷ [])) (suc levelLimit) → FirstRefused text 6 p
-
--- ---- theorems
 
 -- the bytes of a token that the text reaches stand at its place
 pub reaches-stood : {text : List ℕ} {ts : List Token} {t : Token} {p : ℕ} → Reaches text ts t p → Stood 0 text (placed p t)
@@ -74,7 +33,6 @@ first-token x f = record {
   leads = λ xs ys e. earlier xs ys (rw e at (x .leads));
   ends = f;
   within = reaches-within x;
-  bytes = reaches-stood x;
 }
 
 -- 4, 5 and 6 are given for the first token that has one, or for the end

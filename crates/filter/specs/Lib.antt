@@ -3,6 +3,7 @@ pub mod Grammar
 pub mod Levels
 pub mod Answers
 pub mod Given
+pub mod Refused
 pub mod Reader
 pub mod Answering
 pub mod Parsing

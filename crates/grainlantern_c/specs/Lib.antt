@@ -1,3 +1,3 @@
-pub mod Lines
+pub mod Judgements
 pub mod Programs
 pub mod Steps

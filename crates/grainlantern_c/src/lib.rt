@@ -1,13 +1,17 @@
 // The interface for C: numbers for answers, their values in four places that the caller lends.
 ghost use mathlib.Core.Path.{_≡_};
 ghost use mathlib.Core.List.{[], _∷_};
+ghost use mathlib.Core.Option.{some, none};
+ghost use lib.ListN.{length};
 ghost use Rattle.walk.specs.Steps.{stepAt};
-ghost use Rattle.grainlantern_c.specs.Lines.{linesNumber, linesValue, linesLeft};
+ghost use Rattle.judge.specs.Answers.{linesAfter, tallyAfter};
+ghost use Rattle.judge.specs.Judging.{judgeOf, valueOf};
+ghost use Rattle.grainlantern_c.specs.Judgements.{valuesOf, judgeNumber, judgeValue};
 ghost use Rattle.grainlantern_c.specs.Programs.{compileNumber, compileValue, compileLeft};
 ghost use Rattle.grainlantern_c.specs.Steps.{stepNumber, stepValue};
 use filter::Compiled;
-use line::Wrote;
-use message::Decoded;
+use judge::Judged;
+use judge::Tally;
 use walk::Step;
 
 // An answer's number, with its value in the first place and zeros in those kept for later versions.
@@ -36,24 +40,52 @@ pub extern "C" fn grainlantern_compile(text: &[u8], program: &mut [u8], value: &
     }
 }
 
-// The lines of a record, whatever a filter would say of it: 0 and their bytes, or the refusal's number.
-#[no_mangle]
-pub extern "C" fn grainlantern_lines(s: &[u8], lines: &mut [u8], value: &mut [u64; 4]) -> u32
-    ensures { λ r. ⌜ r ≡ linesNumber (now (s .entry)) (now (lines .entry)) ⌝ }
-    ensures { λ r. ⌜ now (value .exit) ≡ linesValue (now (s .entry)) (now (lines .entry)) ⌝ }
-    ensures { λ r. ⌜ now (lines .exit) ≡ linesLeft (now (s .entry)) (now (lines .entry)) ⌝ }
+// What judging answered, as a number and its values.
+fn answer_judged(value: &mut [u64; 4], judged: Judged) -> u32
+    ensures { λ r. ⌜ (r ≡ valueOf judged .0) × (now (value .exit) ≡ valuesOf (valueOf judged)) ⌝ }
 {
-    let decoded = message::decode(s);
-    match decoded {
-        Decoded::Refused(refusal) => answer(value, message::number_of(refusal), 0),
-        Decoded::Read(parts) => {
-            let wrote = line::write(s, parts, lines);
-            match wrote {
-                Wrote::Bytes(n) => answer(value, 0, n as u64),
-                Wrote::Short => answer(value, 19, 0),
-            }
+    match judged {
+        Judged::Kept { steps, bytes } => {
+            *value = [steps as u64, bytes as u64, 0, 0];
+            1
         }
+        Judged::Dropped { steps } => answer(value, 0, steps as u64),
+        Judged::Refused(refusal) => answer(value, judge::number_of(refusal), 0),
     }
+}
+
+// Judges a record with a program: 1 kept with the steps and the bytes of its lines, 0 dropped with the steps, or the refusal's number.
+#[no_mangle]
+pub extern "C" fn grainlantern_judge(
+    program: &[u8],
+    bytes: &[u8],
+    lines: &mut [u8],
+    value: &mut [u64; 4],
+) -> u32
+    ensures { λ r. ⌜ r ≡ judgeNumber (judgeOf (now (program .entry)) (now (bytes .entry)) (length (now (lines .entry))) none) ⌝ }
+    ensures { λ r. ⌜ now (value .exit) ≡ judgeValue (judgeOf (now (program .entry)) (now (bytes .entry)) (length (now (lines .entry))) none) ⌝ }
+    ensures { λ r. ⌜ now (lines .exit) ≡ linesAfter (judgeOf (now (program .entry)) (now (bytes .entry)) (length (now (lines .entry))) none) (now (lines .entry)) ⌝ }
+{
+    let judged = judge::judge(program, bytes, lines);
+    answer_judged(value, judged)
+}
+
+// The same, counted in the tally that the caller lends.
+#[no_mangle]
+pub extern "C" fn grainlantern_judge_counted(
+    program: &[u8],
+    bytes: &[u8],
+    lines: &mut [u8],
+    tally: &mut Tally,
+    value: &mut [u64; 4],
+) -> u32
+    ensures { λ r. ⌜ r ≡ judgeNumber (judgeOf (now (program .entry)) (now (bytes .entry)) (length (now (lines .entry))) (some (now (tally .entry)))) ⌝ }
+    ensures { λ r. ⌜ now (value .exit) ≡ judgeValue (judgeOf (now (program .entry)) (now (bytes .entry)) (length (now (lines .entry))) (some (now (tally .entry)))) ⌝ }
+    ensures { λ r. ⌜ now (lines .exit) ≡ linesAfter (judgeOf (now (program .entry)) (now (bytes .entry)) (length (now (lines .entry))) (some (now (tally .entry)))) (now (lines .entry)) ⌝ }
+    ensures { λ r. ⌜ now (tally .exit) ≡ tallyAfter (judgeOf (now (program .entry)) (now (bytes .entry)) (length (now (lines .entry))) (some (now (tally .entry)))) (now (tally .entry)) ⌝ }
+{
+    let judged = judge::judge_counted(program, bytes, lines, tally);
+    answer_judged(value, judged)
 }
 
 // What stands at a place of a run of records: 0 a record and its bytes, 1 done, 2 cut and the bytes left.

@@ -1,4 +1,5 @@
 pub mod Steps
 pub mod Splits
 pub mod Walks
+pub mod Behind
 pub mod Readers

@@ -19,7 +19,7 @@ placeIn [] (suc k) = 0
 placeIn (r ∷ rs) (suc k) = length r + placeIn rs k
 
 -- the next place lies one record further
-place-next : (rs : List (List ℕ)) (k : ℕ) → placeIn rs (suc k) ≡ placeIn rs k + length (getD rs k [])
+pub place-next : (rs : List (List ℕ)) (k : ℕ) → placeIn rs (suc k) ≡ placeIn rs k + length (getD rs k [])
 unfolding placeIn
 place-next [] zero = refl
 place-next [] (suc k) = refl

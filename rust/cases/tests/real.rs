@@ -1,25 +1,31 @@
 //! The dumps of real collectors give their lines.
 
-use cases::{each_record, lines, step, stored};
+use cases::{judge, program, step, stored, KEEP_ALL, LINE_ROOM};
 
 fn holds(name: &str) {
-    let run = std::fs::read(stored("real").join(format!("{name}.mrt"))).expect(name);
-    let wanted = std::fs::read(stored("real").join(format!("{name}.lines"))).expect(name);
-    let mut buffer = vec![0; 65536];
+    let run = stored(&format!("tests/real/{name}.mrt"));
+    let keep_all = program(KEEP_ALL);
+    let mut buffer = vec![0; LINE_ROOM];
     let mut printed = Vec::new();
-    let mut bytes = 0;
-    each_record(&run, |record| {
-        let (number, value) = lines(record, &mut buffer);
-        if number == 0 {
-            printed.extend_from_slice(&buffer[..value[0] as usize]);
+    let mut at = 0;
+    loop {
+        let (answer, value) = step(&run, at);
+        if answer != 0 {
+            break;
         }
-        bytes += record.len();
-        Ok::<(), ()>(())
-    })
-    .unwrap();
-    assert_eq!(bytes, run.len(), "{name} is walked to its end");
-    assert_eq!(step(&run, bytes), (1, [0; 4]), "{name} closes with done");
-    assert!(printed == wanted, "{name}: the lines differ");
+        let end = at + value[0] as usize;
+        let (number, value) = judge(&keep_all, &run[at..end], &mut buffer);
+        if number == 1 {
+            printed.extend_from_slice(&buffer[..value[1] as usize]);
+        }
+        at = end;
+    }
+    assert_eq!(at, run.len(), "{name} is walked to its end");
+    assert_eq!(step(&run, at), (1, [0; 4]), "{name} closes with done");
+    assert!(
+        printed == stored(&format!("tests/real/{name}.lines")),
+        "{name}: the lines differ"
+    );
 }
 
 #[test]

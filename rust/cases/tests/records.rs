@@ -1,36 +1,62 @@
-//! Every row of records.tsv: the number, the lines, and the buffer around them.
+//! Every row of records.tsv under a filter that keeps everything: the number, the steps, the lines, and the buffer around them.
 
-use cases::{bytes, lines, rows};
+use cases::{bytes, judge, program, rows, KEEP_ALL, LINE_ROOM};
 
-const ROOM: usize = 65536;
 const FILL: u8 = 0xA5;
 
-fn check(record: &[u8], number: u32, text: &[u8], room: usize, row: usize) {
+/// The steps of the filter: its first test decides an UPDATE, and all of it is looked at for another message.
+fn steps(record: &[u8]) -> u64 {
+    let type_at = if record[7] == 4 { 50 } else { 46 };
+    if record[type_at] == 2 {
+        2
+    } else {
+        4
+    }
+}
+
+fn check(
+    keep_all: &[u8],
+    record: &[u8],
+    answer: (u32, [u64; 4]),
+    text: &[u8],
+    room: usize,
+    row: usize,
+) {
     let mut buffer = vec![FILL; room];
-    let (answer, value) = lines(record, &mut buffer);
-    assert_eq!(answer, number, "number of row {row} with room {room}");
-    let written = if number == 0 { text } else { &[] };
-    assert_eq!(value, [written.len() as u64, 0, 0, 0], "values of row {row} with room {room}");
-    assert_eq!(&buffer[..written.len()], written, "lines of row {row} with room {room}");
+    assert_eq!(
+        judge(keep_all, record, &mut buffer),
+        answer,
+        "row {row} with room {room}"
+    );
+    assert_eq!(
+        &buffer[..text.len()],
+        text,
+        "lines of row {row} with room {room}"
+    );
     assert!(
-        buffer[written.len()..].iter().all(|b| *b == FILL),
+        buffer[text.len()..].iter().all(|b| *b == FILL),
         "row {row} with room {room} touched bytes that it didn't report"
     );
 }
 
 #[test]
 fn every_record_gives_its_number_and_lines() {
+    let keep_all = program(KEEP_ALL);
     let table = rows("records.tsv");
     assert_eq!(table.len(), 500);
     for (row, columns) in table.iter().enumerate() {
         let record = bytes(&columns[0]);
         let number: u32 = columns[1].parse().unwrap();
         let text = bytes(&columns[2]);
-        check(&record, number, &text, ROOM, row);
-        check(&record, number, &text, text.len(), row);
+        let answer = match number {
+            0 => (1, [steps(&record), text.len() as u64, 0, 0]),
+            refusal => (refusal, [0; 4]),
+        };
+        check(&keep_all, &record, answer, &text, LINE_ROOM, row);
+        check(&keep_all, &record, answer, &text, text.len(), row);
         if !text.is_empty() {
-            check(&record, 19, &[], text.len() - 1, row);
-            check(&record, 19, &[], 0, row);
+            check(&keep_all, &record, (19, [0; 4]), &[], text.len() - 1, row);
+            check(&keep_all, &record, (19, [0; 4]), &[], 0, row);
         }
     }
 }

@@ -7,7 +7,11 @@ const RECORD: usize = 16;
 
 fn check(text: &[u8], room: usize, number: u32, value: u64, program: &[u8], what: &str) {
     let mut buffer = vec![FILL; room];
-    assert_eq!(compile(text, &mut buffer), (number, [value, 0, 0, 0]), "{what}");
+    assert_eq!(
+        compile(text, &mut buffer),
+        (number, [value, 0, 0, 0]),
+        "{what}"
+    );
     assert_eq!(&buffer[..program.len()], program, "{what}: program");
     assert!(
         buffer[program.len()..].iter().all(|b| *b == FILL),
@@ -18,9 +22,20 @@ fn check(text: &[u8], room: usize, number: u32, value: u64, program: &[u8], what
 /// A text that compiles to `weight` records does so in exactly that room, and is refused in one byte less.
 fn compiles(text: &str, weight: usize) -> Vec<u8> {
     let mut program = vec![FILL; RECORD * weight];
-    assert_eq!(compile(text.as_bytes(), &mut program), (0, [(RECORD * weight) as u64, 0, 0, 0]), "{text}");
+    assert_eq!(
+        compile(text.as_bytes(), &mut program),
+        (0, [(RECORD * weight) as u64, 0, 0, 0]),
+        "{text}"
+    );
     check(text.as_bytes(), RECORD * weight - 1, 8, 0, &[], text);
-    check(text.as_bytes(), RECORD * weight + 40, 0, (RECORD * weight) as u64, &program, text);
+    check(
+        text.as_bytes(),
+        RECORD * weight + 40,
+        0,
+        (RECORD * weight) as u64,
+        &program,
+        text,
+    );
     program
 }
 
@@ -60,7 +75,11 @@ fn levels_up_to_32() {
     assert!((1..33).all(|i| program[RECORD * i] == 10));
     refused(&format!("{}-loops", "!".repeat(33)), 6, 32);
     compiles(&format!("{}-loops{}", "(".repeat(32), ")".repeat(32)), 1);
-    refused(&format!("{}-loops{}", "(".repeat(33), ")".repeat(33)), 6, 32);
+    refused(
+        &format!("{}-loops{}", "(".repeat(33), ")".repeat(33)),
+        6,
+        32,
+    );
     refused(&"(".repeat(4096), 6, 32);
     // a level that is closed leaves room for another
     compiles(&vec!["(-loops)"; 40].join("-and"), 79);

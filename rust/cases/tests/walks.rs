@@ -15,7 +15,11 @@ fn every_run_is_walked() {
             .collect();
         let mut at = 0;
         for size in sizes {
-            assert_eq!(step(&run, at), (0, [size as u64, 0, 0, 0]), "row {row} at {at}");
+            assert_eq!(
+                step(&run, at),
+                (0, [size as u64, 0, 0, 0]),
+                "row {row} at {at}"
+            );
             at += size;
         }
         let left: u64 = columns[3].parse().unwrap();

@@ -1,0 +1,8 @@
+pub mod Answers
+pub mod DemandOne
+pub mod DemandTwo
+pub mod DemandThree
+pub mod OnMessages
+pub mod ShutOut
+pub mod Walk
+pub mod WholeNumbers

@@ -1,0 +1,48 @@
+-- Demand 1, as a claim about a compiler and a judge: each clause under the demand's own words. "It answers and stops": both are functions of all that is
+-- lent, and the checker proves that the code ends. "It never asks its caller to have looked first": nothing is asked of the arguments but that bytes are bytes.
+use Prim.Native.Nat.{ℕ, _≤_}
+use mathlib.Core.Path.{_≡_}
+use mathlib.Core.List.{List}
+use mathlib.Core.Logic.{_↔_}
+use mathlib.Core.Option.{Option}
+use lib.ListN.{length}
+use Rattle.octets.specs.Numbers.{Octets}
+use Rattle.filter.specs.Answers as texts
+use Rattle.judge.specs.declared.Tally.{Tally}
+use Rattle.judge.specs.Answers as records
+use Rattle.judge.specs.Functions.{Judging, Judge}
+use Rattle.run.specs.Damage.{OneMore}
+use Rattle.claims.specs.Functions.{Compiling, Compiler}
+
+-- of a text and a program buffer, and what compiling answers
+pub record OfText (text buffer : List ℕ) (c : Compiling) : Type 0 where
+  -- "it answers": 0, or one of 1 to 8
+  pub numbered : c .number ≤ 8
+  -- "Each refusal has its number, given exactly when the paper says": 1 to 8, each at its place
+  pub refuses : (n place : ℕ) → 1 ≤ n → ((c .number ≡ n) × (c .value ≡ place)) ↔ texts.Answers text (length buffer) (texts.refused n place)
+  -- ".. and a refusal writes nothing"
+  pub leaves : 1 ≤ c .number → c .buffer ≡ buffer
+
+-- the numbers of judging: 0 dropped, 1 kept, 11 to 21 a refusal
+pub data JudgingNumber (n : ℕ) : Type 0 where
+  verdict : n ≤ 1 → JudgingNumber n
+  refusal : 11 ≤ n → n ≤ 21 → JudgingNumber n
+
+-- of a program, a record, a line buffer and a tally or none, and what judging answers
+pub record OfRecord (program bytes lines : List ℕ) (counting : Option Tally) (j : Judging) : Type 1 where
+  -- "it answers"
+  pub numbered : JudgingNumber (j .number)
+  -- "Each refusal has its number, given exactly when the paper says": 11 to 18, which are counted
+  pub refuses : (n : ℕ) → 11 ≤ n → n ≤ 18 → (j .number ≡ n) ↔ records.Answers program bytes (length lines) counting (records.refused n)
+  -- 19, 20 and 21, which aren't
+  pub declines : (n : ℕ) → 19 ≤ n → n ≤ 21 → (j .number ≡ n) ↔ records.Answers program bytes (length lines) counting (records.declined n)
+  -- ".. and a refusal writes nothing but its count"
+  pub leaves : 11 ≤ j .number → (j .lines ≡ lines) × (j .written ≡ 0)
+  pub counts : 11 ≤ j .number → j .number ≤ 18 → OneMore (j .tally) counting
+  pub uncounted : 19 ≤ j .number → j .tally ≡ counting
+
+-- "Hand it any text, any program bytes, any record, any buffer size"
+pub record DemandOne (compiler : Compiler) (judge : Judge) : Type 1 where
+  pub texts : (text buffer : List ℕ) → OfText text buffer (compiler text buffer)
+  pub records : (program bytes lines : List ℕ) (counting : Option Tally) → Octets program → Octets bytes
+      → OfRecord program bytes lines counting (judge program bytes lines counting)

@@ -1,0 +1,8 @@
+pub mod Functions
+pub mod Ours
+pub mod Walk
+pub mod DemandOne
+pub mod DemandTwo
+pub mod DemandThree
+pub mod Answered
+pub mod Wrong

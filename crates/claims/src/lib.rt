@@ -1,0 +1,133 @@
+// The demands as claims, and functions that meet the third at their arguments.
+ghost use mathlib.Core.Path.{_≡_};
+ghost use mathlib.Core.Option.{some};
+ghost use Rattle.judge.specs.Functions.{ourJudge};
+ghost use Rattle.claims.specs.Answered.{countingOf, judgement, Claimed};
+use filter::Compiled;
+use filter::Refusal;
+use judge::Judged;
+use judge::Tally;
+
+// A tally to count in, or none.
+pub enum Counting {
+    Without,
+    With(Tally),
+}
+
+// What compiling a text, and judging a record with its program, answer.
+pub enum Answer {
+    // The text compiles to so many bytes, and the record is judged with these.
+    Judged { bytes: usize, judged: Judged },
+    // The text isn't compiled: why, and where.
+    Refused { refusal: Refusal, place: usize },
+}
+
+// An answer, and the tally after it.
+pub struct Answered {
+    pub answer: Answer,
+    pub counting: Counting,
+}
+
+// An answer, and the tally after it, where there is one.
+pub struct Tallied {
+    pub answer: Answer,
+    pub tally: Tally,
+}
+
+// What judging answers, and the tally after it.
+struct Counted {
+    judged: Judged,
+    counting: Counting,
+}
+
+// Judges with a tally or none.
+fn judge_in(program: &[u8], bytes: &[u8], lines: &mut [u8], counting: Counting) -> Counted
+    ensures { λ r. ⌜ judgement (r .judged) (now (lines .exit)) (countingOf (r .counting)) ≡ ourJudge (now (program .entry)) (now (bytes .entry)) (now (lines .entry)) (countingOf counting) ⌝ }
+{
+    match counting {
+        Counting::Without => {
+            let judged = judge::judge(program, bytes, lines);
+            Counted {
+                judged,
+                counting: Counting::Without,
+            }
+        }
+        Counting::With(tally) => {
+            let counted = judge::judge_with(program, bytes, lines, tally);
+            let judged = counted.judged;
+            let after = counted.tally;
+            Counted {
+                judged,
+                counting: Counting::With(after),
+            }
+        }
+    }
+}
+
+// Compiles a text and judges a record with the program.
+pub fn compile_and_judge(
+    text: &[u8],
+    program: &mut [u8],
+    bytes: &[u8],
+    lines: &mut [u8],
+    counting: Counting,
+) -> Answered
+    ensures { λ r. ⌜ Claimed (now (text .entry)) (now (program .entry)) (now (bytes .entry)) (now (lines .entry)) (countingOf counting) (r .answer) (now (program .exit)) (now (lines .exit)) (countingOf (r .counting)) ⌝ }
+{
+    let compiled = filter::compile(text, program);
+    match compiled {
+        Compiled::Program(size) => {
+            let counted = judge_in(octets::part(program, 0, size), bytes, lines, counting);
+            let judged = counted.judged;
+            let after = counted.counting;
+            Answered {
+                answer: Answer::Judged {
+                    bytes: size,
+                    judged,
+                },
+                counting: after,
+            }
+        }
+        Compiled::Refused(refusal, place) => Answered {
+            answer: Answer::Refused { refusal, place },
+            counting,
+        },
+    }
+}
+
+// The same with a tally, which comes back.
+pub fn compile_and_judge_with(
+    text: &[u8],
+    program: &mut [u8],
+    bytes: &[u8],
+    lines: &mut [u8],
+    tally: Tally,
+) -> Tallied
+    ensures { λ r. ⌜ Claimed (now (text .entry)) (now (program .entry)) (now (bytes .entry)) (now (lines .entry)) (some tally) (r .answer) (now (program .exit)) (now (lines .exit)) (some (r .tally)) ⌝ }
+{
+    let answered = compile_and_judge(text, program, bytes, lines, Counting::With(tally));
+    let answer = answered.answer;
+    let counting = answered.counting;
+    match counting {
+        Counting::With(after) => Tallied {
+            answer,
+            tally: after,
+        },
+        Counting::Without => Tallied { answer, tally },
+    }
+}
+
+// The same with a tally that is lent.
+pub fn compile_and_judge_counted(
+    text: &[u8],
+    program: &mut [u8],
+    bytes: &[u8],
+    lines: &mut [u8],
+    tally: &mut Tally,
+) -> Answer
+    ensures { λ r. ⌜ Claimed (now (text .entry)) (now (program .entry)) (now (bytes .entry)) (now (lines .entry)) (some (now (tally .entry))) r (now (program .exit)) (now (lines .exit)) (some (now (tally .exit))) ⌝ }
+{
+    let tallied = compile_and_judge_with(text, program, bytes, lines, *tally);
+    *tally = tallied.tally;
+    tallied.answer
+}

@@ -1,0 +1,103 @@
+-- Laws of answers: that they stand for their outcomes, and that a tally that isn't full has room in each count. Assumes nothing.
+use Prim.Native.Nat.{ℕ, _*_, _≤_}
+use native.Mathlib.Nat.{lt-of-not-le}
+use native.Mathlib.Decide.{decLe}
+use native.Mathlib.Omega.{arith}
+use mathlib.Core.Path.{_≡_, refl, sym}
+use mathlib.Core.Bool.{Bool, true, false}
+use mathlib.Core.List.{List}
+use lib.ListN.{length}
+use lib.Dec.{eqb, leb}
+use borrow.Author.Tests.{eqb-false, leb-true, le-leb, lt-leb, le-ltb, lt-ltb}
+use Rattle.octets.proofs.Choices.{never, each, second-chosen}
+use Rattle.message.specs.declared.Parts.{Parts}
+use Rattle.message.specs.declared.Refusal.{Refusal}
+use Rattle.message.specs.declared.Decoded.{Decoded}
+use Rattle.message.specs.declared.Decoded.the-variants.{Read, Refused as Unread}
+use Rattle.message.specs.Decode.{messageAt}
+use Rattle.line.specs.declared.Wrote.the-variants.{Bytes, Short}
+use Rattle.line.specs.Line.{linesOf}
+use Rattle.line.specs.Answer.{answerOf, placed}
+use Rattle.program.specs.Records.{weightLimit}
+use Rattle.program.specs.Layout.{recordSize}
+use Rattle.program.specs.Validity.{isValid}
+use Rattle.program.specs.Machine.{machine}
+use Rattle.truth.specs.Records.{recordTruth}
+use Rattle.judge.specs.declared.Tally.{Tally}
+use Rattle.judge.specs.declared.Refusal.the-variants.{Record, Lines}
+use Rattle.judge.specs.declared.Judged.{Judged}
+use Rattle.judge.specs.declared.Judged.the-variants.{Kept, Dropped, Refused}
+use Rattle.judge.specs.Tallies.{fullCount, isFull}
+use Rattle.judge.specs.Answers.{linesAfter}
+use Rattle.judge.specs.Judging.{decoded, numberOf, valueOf}
+use Rattle.judge.specs.Executing.{tallyOf, Answer}
+
+-- a valid program has at most 8,192 bytes
+pub valid-few : (program : List ℕ) → isValid program ≡ true → length program ≤ recordSize * weightLimit
+unfolding isValid
+valid-few program e = leb-true _ _ (each (leb (length program) (recordSize * weightLimit)) _ (each (leb recordSize (length program)) _ e .1) .0)
+
+-- ---- tallies
+
+-- each count of a tally can grow
+pub record Room (t : Tally) : Type 0 where
+  pub seen : t .seen ≡ fullCount → ⊥
+  pub kept : t .kept ≡ fullCount → ⊥
+  pub dropped : t .dropped ≡ fullCount → ⊥
+  pub refused : t .refused ≡ fullCount → ⊥
+
+-- where the tally isn't full
+pub room : (t : Tally) → isFull t ≡ false → Room t
+unfolding isFull
+room t e =
+    let no-full : _≡_ {A = Bool} true false → ⊥ = λ x. never (sym x) in
+    let a = second-chosen (eqb (t .seen) fullCount) no-full e in
+    let b = second-chosen (eqb (t .kept) fullCount) no-full (a .1) in
+    let c = second-chosen (eqb (t .dropped) fullCount) no-full (b .1) in
+    record {
+      seen = eqb-false _ _ (a .0);
+      kept = eqb-false _ _ (b .0);
+      dropped = eqb-false _ _ (c .0);
+      refused = eqb-false _ _ (c .1);
+    }
+
+-- ---- the answer for what a decoder said
+
+-- an answer and the lines afterwards are those of the outcome
+abbrev pub Comes : List ℕ → List ℕ → List ℕ → Decoded → Judged → List ℕ → Type 0
+Comes program bytes old d j new = Answer j (decoded program bytes (length old) d) × (new ≡ linesAfter (decoded program bytes (length old) d) old)
+
+module _ (program bytes old : List ℕ) (d : Decoded) where
+  -- a record that isn't read
+  pub comes-unread : (why : Refusal) → d ≡ Unread why → Comes program bytes old d (Refused (Record why)) old
+  unfolding valueOf numberOf tallyOf
+  comes-unread why e = rw e (record { said = refl; counts = λ t. refl }, refl)
+
+  module _ (parts : Parts) (read : d ≡ Read parts) (steps : ℕ) where
+    -- a record that is dropped
+    pub comes-dropped : (false, steps) ≡ machine (recordTruth (messageAt bytes parts)) program → Comes program bytes old d (Dropped steps) old
+    unfolding valueOf tallyOf
+    comes-dropped e = rw (read, ← e) (record { said = refl; counts = λ t. refl }, refl)
+
+    module _ (ran : (true, steps) ≡ machine (recordTruth (messageAt bytes parts)) program) (new : List ℕ) (left : new ≡ placed (linesOf (messageAt bytes parts)) old) where
+      -- one that is kept without room for its lines
+      pub comes-short : Short ≡ answerOf (linesOf (messageAt bytes parts)) old → Comes program bytes old d (Refused Lines) new
+      unfolding valueOf numberOf tallyOf
+      comes-short = go (decLe (length (linesOf (messageAt bytes parts))) (length old)) left
+        where
+          go : Dec (length (linesOf (messageAt bytes parts)) ≤ length old) → new ≡ placed (linesOf (messageAt bytes parts)) old
+              → Short ≡ answerOf (linesOf (messageAt bytes parts)) old → Comes program bytes old d (Refused Lines) new
+          go (yes h) f e = let z : _≡_ {A = ℕ} 0 1 = cc (le-leb _ _ h) in absurd (omega arith)
+          go (no n) f e = rw (read, ← ran, lt-ltb _ _ (lt-of-not-le n)) (record { said = refl; counts = λ t. refl }, rw (lt-leb _ _ (lt-of-not-le n)) at f)
+
+      -- one that is kept, with its lines
+      pub comes-kept : (size : ℕ) → Bytes size ≡ answerOf (linesOf (messageAt bytes parts)) old → Comes program bytes old d (Kept steps size) new
+      unfolding valueOf tallyOf
+      comes-kept size = go (decLe (length (linesOf (messageAt bytes parts))) (length old)) left
+        where
+          go : Dec (length (linesOf (messageAt bytes parts)) ≤ length old) → new ≡ placed (linesOf (messageAt bytes parts)) old
+              → Bytes size ≡ answerOf (linesOf (messageAt bytes parts)) old → Comes program bytes old d (Kept steps size) new
+          go (no n) f e = let z : _≡_ {A = ℕ} 0 1 = cc (lt-leb _ _ (lt-of-not-le n)) in absurd (omega arith)
+          go (yes h) f e =
+              let s : size ≡ length (linesOf (messageAt bytes parts)) = cc (le-leb _ _ h) in
+              rw (read, ← ran, le-ltb _ _ h, s) (record { said = refl; counts = λ t. refl }, rw (le-leb _ _ h) at f)

@@ -1,0 +1,9 @@
+pub mod Alike
+pub mod Answered
+pub mod Answering
+pub mod Counting
+pub mod Execution
+pub mod Lent
+pub mod Readings
+pub mod Saying
+pub mod Tallies

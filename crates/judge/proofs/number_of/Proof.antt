@@ -1,0 +1,50 @@
+-- `judge::number_of` meets its contract: a refusal each. Assumes nothing.
+use borrow.Author.Needs.{needs}
+use Rattle.judge.specs.Judging.{numberOf}
+use Rattle.judge.proofs.number_of.Statement.{statement}
+use Rattle.judge.proofs.number_of.Tie as tie
+
+enum-told : tie.Need-enum-told
+enum-told c = search needs
+
+enum-told-2 : tie.Need-enum-told-2
+enum-told-2 c = search needs
+
+enum-known-refusal : tie.Need-enum-known-refusal
+enum-known-refusal c = search needs
+
+number-of-requires : tie.Need-number-of-requires
+number-of-requires c κs = search needs
+
+enum-told-3 : tie.Need-enum-told-3
+enum-told-3 c = search needs
+
+returns : tie.Need-returns
+unfolding numberOf
+returns c = search needs
+
+returns-2 : tie.Need-returns-2
+unfolding numberOf
+returns-2 c = search needs
+
+returns-3 : tie.Need-returns-3
+unfolding numberOf
+returns-3 c = search needs
+
+returns-4 : tie.Need-returns-4
+unfolding numberOf
+returns-4 c = search needs
+
+pub number-of-spec : {M : Type 1} → statement M
+number-of-spec =
+    tie.close
+    (tie.spec
+    enum-told
+    enum-told-2
+    enum-known-refusal
+    number-of-requires
+    enum-told-3
+    returns
+    returns-2
+    returns-3
+    returns-4)

@@ -1,0 +1,59 @@
+-- What judging a record with a program answers: 20, 21, 11 to 18, the verdict, 19, in the paper's words.
+use Prim.Native.Nat.{ℕ, _≤_, _<_}
+use mathlib.Core.Path.{_≡_}
+use mathlib.Core.Bool.{true, false}
+use mathlib.Core.Option.{Option, some, none}
+use mathlib.Core.List.{List, _++_}
+use lib.ListN.{length, drop}
+use Rattle.message.specs.Message.{Message}
+use Rattle.message.specs.declared.Refusal.{Refusal}
+use Rattle.message.specs.Represents.{Represents}
+use Rattle.message.specs.Refusals.{RefusedWith, number}
+use Rattle.line.specs.Line.{linesOf}
+use Rattle.line.specs.Answer.{shortNumber}
+use Rattle.program.specs.Machine.{machine}
+use Rattle.program.specs.Validity.{Valid}
+use Rattle.truth.specs.Records.{recordTruth}
+use Rattle.judge.specs.declared.Tally.{Tally}
+use Rattle.judge.specs.Tallies.{FullTally, oneKept, oneDropped, oneRefused}
+
+pub data Outcome : Type 0 where
+  -- steps, and the lines
+  kept : ℕ → List ℕ → Outcome
+  -- steps
+  dropped : ℕ → Outcome
+  -- a number that is counted as refused: 11 to 18
+  refused : ℕ → Outcome
+  -- a number that isn't: 19, 20, 21
+  declined : ℕ → Outcome
+
+-- the answer for a program, the bytes of a record, the room for lines and a tally or none
+pub data Answers (program bytes : List ℕ) (room : ℕ) (counting : Option Tally) : Outcome → Type 1 where
+  -- 20: program not valid
+  not-valid : (Valid program → ⊥) → Answers program bytes room counting (declined 20)
+  -- 21: judging with a tally that is full
+  full : Valid program → FullTally counting → Answers program bytes room counting (declined 21)
+  -- 11 to 18
+  unread : {r : Refusal} → Valid program → (FullTally counting → ⊥) → RefusedWith bytes r → Answers program bytes room counting (refused (number r))
+  -- the last flag is the verdict
+  drops : {m : Message} {steps : ℕ} → Valid program → (FullTally counting → ⊥) → Represents m bytes → machine (recordTruth m) program ≡ (false, steps)
+      → Answers program bytes room counting (dropped steps)
+  -- 19: record kept and line buffer too short
+  short : {m : Message} {steps : ℕ} → Valid program → (FullTally counting → ⊥) → Represents m bytes → machine (recordTruth m) program ≡ (true, steps)
+      → room < length (linesOf m) → Answers program bytes room counting (declined shortNumber)
+  keeps : {m : Message} {steps : ℕ} → Valid program → (FullTally counting → ⊥) → Represents m bytes → machine (recordTruth m) program ≡ (true, steps)
+      → length (linesOf m) ≤ room → Answers program bytes room counting (kept steps (linesOf m))
+
+-- the line buffer afterwards: a kept record's lines over its start, else as it was
+abbrev pub linesAfter : Outcome → List ℕ → List ℕ
+linesAfter (kept steps lines) old = lines ++ drop (length lines) old
+linesAfter (dropped steps) old = old
+linesAfter (refused n) old = old
+linesAfter (declined n) old = old
+
+-- the tally afterwards
+abbrev pub tallyAfter : Outcome → Tally → Tally
+tallyAfter (kept steps lines) t = oneKept t
+tallyAfter (dropped steps) t = oneDropped t
+tallyAfter (refused n) t = oneRefused t
+tallyAfter (declined n) t = t

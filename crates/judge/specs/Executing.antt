@@ -1,0 +1,48 @@
+-- What the parts of judging compute: the machine a record at a time, and an answer with what it counts as.
+use Prim.Native.Nat.{ℕ, _+_, _*_}
+use mathlib.Core.Path.{_≡_}
+use mathlib.Core.Bool.{Bool, false}
+use mathlib.Core.List.{List}
+use lib.ListN.{drop}
+use lib.Dec.{eqb, leb}
+use Rattle.octets.specs.Choice.{pick}
+use Rattle.message.specs.Message.{Message}
+use Rattle.program.specs.Layout.{recordSize, decode}
+use Rattle.program.specs.Machine.{classOf, moved}
+use Rattle.truth.specs.Records.{truthAt}
+use Rattle.judge.specs.declared.State.{State}
+use Rattle.judge.specs.declared.Tally.{Tally}
+use Rattle.judge.specs.declared.Refusal.the-variants.{Program, Count, Record, Lines}
+use Rattle.judge.specs.declared.Judged.{Judged}
+use Rattle.judge.specs.declared.Judged.the-variants.{Kept, Dropped, Refused}
+use Rattle.judge.specs.Tallies.{oneKept, oneDropped, oneRefused}
+use Rattle.judge.specs.Answers.{Outcome, tallyAfter}
+use Rattle.judge.specs.Judging.{valueOf, saidOf}
+
+-- the tally after an answer
+unfoldable pub tallyOf : Judged → Tally → Tally
+tallyOf (Kept steps bytes) t = oneKept t
+tallyOf (Dropped steps) t = oneDropped t
+tallyOf (Refused (Record r)) t = oneRefused t
+tallyOf (Refused Program) t = t
+tallyOf (Refused Count) t = t
+tallyOf (Refused Lines) t = t
+
+-- an answer that says an outcome and counts as it does
+pub record Answer (j : Judged) (o : Outcome) : Type 0 where
+  pub said : valueOf j ≡ saidOf o
+  pub counts : (t : Tally) → tallyOf j t ≡ tallyAfter o t
+
+-- 1 to 9 are tests, but for 4
+abbrev pub isTestKind : ℕ → Bool
+isTestKind k = pick (eqb k 0) false (pick (eqb k 4) false (leb k 9))
+
+-- what the record at a place does: the records to pass over, the flag and the steps after it
+abbrev pub movedAt : Message → List ℕ → State → ℕ × Bool × ℕ
+movedAt m program s = moved (classOf (decode (drop (s .at) program))) (truthAt m program (s .at)) (s .flag) (s .steps)
+
+-- the state after the record at its place
+unfoldable pub stateAfter : Message → List ℕ → State → State
+stateAfter m program s =
+    let x = movedAt m program s in
+    record { at = s .at + recordSize + recordSize * x .0; flag = x .1; steps = x .2 }

@@ -1,0 +1,38 @@
+-- Judging as a function of all that is lent, so that a claim can be said of another judge too; and ours.
+use Prim.Native.Nat.{ℕ}
+use mathlib.Core.List.{List}
+use mathlib.Core.Option.{Option, some, none}
+use lib.ListN.{length}
+use Rattle.judge.specs.declared.Tally.{Tally}
+use Rattle.judge.specs.Answers.{Outcome, linesAfter, tallyAfter}
+use Rattle.judge.specs.Judging.{judgeOf, saidOf}
+
+-- what judging answers, and the line buffer and the tally afterwards: 1 kept or 0 dropped with the steps and the bytes of the lines, or a refusal's number
+pub record Judging : Type 0 where
+  pub number : ℕ
+  pub steps : ℕ
+  pub written : ℕ
+  pub lines : List ℕ
+  pub tally : Option Tally
+
+-- of a program, a record, a line buffer and a tally or none
+abbrev pub Judge : Type 0
+Judge = List ℕ → List ℕ → List ℕ → Option Tally → Judging
+
+-- ---- ours, as its promises settle it
+
+abbrev pub counted : Outcome → Option Tally → Option Tally
+counted o none = none
+counted o (some t) = some (tallyAfter o t)
+
+abbrev pub judgement : Outcome → List ℕ → Option Tally → Judging
+judgement o lines counting = record {
+  number = saidOf o .0;
+  steps = saidOf o .1;
+  written = saidOf o .2;
+  lines = linesAfter o lines;
+  tally = counted o counting;
+}
+
+abbrev pub ourJudge : Judge
+ourJudge program bytes lines counting = judgement (judgeOf program bytes (length lines) counting) lines counting

@@ -1,0 +1,4 @@
+pub mod RecordR
+pub mod Texts
+pub mod KnownPairs
+pub mod Samples

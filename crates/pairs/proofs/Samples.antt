@@ -1,0 +1,23 @@
+-- Texts of one word on R: what they read as, and that they drop it. Assumes nothing.
+use Prim.Native.Nat.{ℕ}
+use mathlib.Core.Path.{refl}
+use mathlib.Core.List.{List, [], _∷_}
+use Rattle.program.specs.Readings.{hasLoop, hasBogon, test, verdict, steps}
+use Rattle.truth.specs.Verdict.{Drops}
+use Rattle.pairs.proofs.Texts.{answerFor, truthOnR, TextOnR, drops}
+
+-- -loops
+abbrev pub loopsText : List ℕ
+loopsText = 45 ∷ 108 ∷ 111 ∷ 111 ∷ 112 ∷ 115 ∷ []
+
+-- -bogon-asn
+abbrev pub bogonText : List ℕ
+bogonText = 45 ∷ 98 ∷ 111 ∷ 103 ∷ 111 ∷ 110 ∷ 45 ∷ 97 ∷ 115 ∷ 110 ∷ []
+
+pub loops : TextOnR Drops loopsText (test hasLoop) 1
+unfolding answerFor truthOnR verdict steps
+loops = drops (refl, refl, refl)
+
+pub bogon : TextOnR Drops bogonText (test hasBogon) 1
+unfolding answerFor truthOnR verdict steps
+bogon = drops (refl, refl, refl)

@@ -1,0 +1,89 @@
+-- From what is computed for a text to what its words mean on R. Assumes nothing.
+use Prim.Native.Nat.{ℕ, _*_, _≤_}
+use native.Mathlib.Nat.{le-refl}
+use mathlib.Core.Path.{_≡_}
+use mathlib.Core.Bool.{Bool, true, false}
+use mathlib.Core.List.{List}
+use Rattle.network.specs.Networks.{agree, covers, relates, cleared}
+use Rattle.aspath.specs.Members.{members}
+use Rattle.aspath.specs.Loops as loops
+use Rattle.aspath.specs.Bogons.{bogons, inSome, isBogon, someBogon}
+use Rattle.aspath.specs.Patterns.{matchesHere, matchesSome}
+use Rattle.attributes.specs.Attribute.{firstOf, askPath}
+use Rattle.message.specs.Message.{Message}
+use Rattle.program.specs.Readings.{Test, Reading, itemCount, weight, verdict, steps}
+use Rattle.program.specs.Layout.{recordSize}
+use Rattle.token.specs.Lexer.{sort, lex}
+use Rattle.token.specs.Next.{run}
+use Rattle.operand.specs.Fronts.{after, optional, cut, isBlank}
+use Rattle.operand.specs.Decimals.{isDigit, numberOn, number, numeral}
+use Rattle.operand.specs.Codes.{same, found}
+use Rattle.operand.specs.Addresses.{part, addressRead, networkText, networkOperand}
+use Rattle.operand.specs.Peers.{peerOperand}
+use Rattle.operand.specs.Patterns.{itemRead, itemsRead, patternOperand}
+use Rattle.operand.specs.Tests.{meaning}
+use Rattle.filter.specs.Words.{vocabulary, roleOf}
+use Rattle.filter.specs.Reader.{read}
+use Rattle.filter.specs.Answers.{bare, Derives, Outcome, compiled, Answers, compiles}
+use Rattle.filter.specs.Answering.{numberOf, startOf, placeOf, answer}
+use Rattle.filter.proofs.Answered.{answer-given}
+use Rattle.filter.proofs.CompiledValid.{reads-possible}
+use Rattle.truth.specs.Means.{onPath, somePrefix, isTrue}
+use Rattle.truth.specs.Verdict.{Keeps, Drops}
+use Rattle.truth.proofs.Addresses.{represented-addressed, OperandsAddressed, reading-addressed}
+use Rattle.truth.proofs.Verdicts.{keeps-exactly, drops-exactly}
+use Rattle.pairs.specs.RecordR.{messageR}
+use Rattle.pairs.specs.Pairs.{OnR}
+use Rattle.pairs.proofs.RecordR.{record-represents}
+
+-- ---- what is computed: to unfold one of these two is to unfold all that it goes through
+
+-- the answer in a buffer that just holds the program of a reading
+unfoldable pub answerFor : List ℕ → Reading → Outcome
+unfolding
+    answer run lex sort bare read vocabulary roleOf found same meaning
+    patternOperand itemsRead itemRead peerOperand addressRead networkOperand networkText part
+    numeral number numberOn isDigit optional after cut isBlank cleared placeOf startOf numberOf weight itemCount
+answerFor text r = answer text (recordSize * weight r)
+
+-- which tests are true of R
+unfoldable pub truthOnR : Test → Bool
+unfolding
+    isTrue messageR onPath firstOf askPath members matchesHere matchesSome loops.hasLoop loops.returnsIn
+    someBogon isBogon inSome bogons somePrefix relates covers agree
+truthOnR t = isTrue messageR t
+
+-- a text's answer is a reading, which keeps R or doesn't, in so many steps
+abbrev pub Computed : Bool → List ℕ → Reading → ℕ → Type 0
+Computed kept text r count = (answerFor text r ≡ compiled r) × (verdict truthOnR r ≡ kept) × (steps truthOnR r ≡ count)
+
+-- ---- what it means
+
+-- `OnR` with the reading in sight, and with any room that holds the program
+pub record TextOnR (Verdict : Message → Reading → Type 0) (text : List ℕ) (r : Reading) (count : ℕ) : Type 0 where
+  pub derives : Derives text r
+  pub compiles : (room : ℕ) → recordSize * weight r ≤ room → Answers text room (compiled r)
+  pub verdict : Verdict messageR r
+  pub counted : steps (isTrue messageR) r ≡ count
+
+pub on-R : {Verdict : Message → Reading → Type 0} {text : List ℕ} {r : Reading} {count : ℕ} → TextOnR Verdict text r count → OnR Verdict text count
+on-R {r = r} t =
+    record { reading = r; derives = t .derives; compiles = t .compiles (recordSize * weight r) (le-refl _); verdict = t .verdict; counted = t .counted }
+
+module _ {text : List ℕ} {r : Reading} {count : ℕ} where
+  -- the words' answer is the computed one, and the verdict is told of a reading whose operands are a text's
+  told : {Verdict : Message → Reading → Type 0} {kept : Bool} → Computed kept text r count → (OperandsAddressed r → Verdict messageR r) → TextOnR Verdict text r count
+  unfolding answerFor truthOnR
+  told {Verdict} (e, k, s) v = by-answer (rw e at (answer-given text (recordSize * weight r)))
+    where
+      by-answer : {room : ℕ} → Answers text room (compiled r) → TextOnR Verdict text r count
+      by-answer (compiles f d w l) =
+          record { derives = d; compiles = λ room h. compiles f d w h; verdict = v (reading-addressed r (reads-possible (d .reads))); counted = s }
+
+  pub keeps : Computed true text r count → TextOnR Keeps text r count
+  unfolding truthOnR
+  keeps c = told c (λ h. keeps-exactly (represented-addressed record-represents) r h .0 (c .1))
+
+  pub drops : Computed false text r count → TextOnR Drops text r count
+  unfolding truthOnR
+  drops c = told c (λ h. drops-exactly (represented-addressed record-represents) r h .0 (c .1))

@@ -1,0 +1,2 @@
+pub mod RecordR
+pub mod Pairs

@@ -1,0 +1,107 @@
+-- A damaged record whose length is right changes nothing in a run of ours but that it is seen and refused. Assumes nothing.
+use Prim.Native.Nat.{ℕ, suc, _+_, _≤_, _<_}
+use native.Mathlib.Omega.{arith}
+use mathlib.Core.Path.{_≡_, refl, sym, ap, _∙_}
+use mathlib.Core.List.{List, _++_}
+use mathlib.Core.Option.{Option, some, none}
+use lib.ListN.{length}
+use Rattle.octets.specs.Numbers.{Octets}
+use Rattle.octets.specs.Rows.{Joined}
+use Rattle.message.specs.declared.Refusal.{Refusal}
+use Rattle.message.specs.Refusals.{RefusedWith}
+use Rattle.program.specs.Validity.{Valid}
+use Rattle.walk.specs.Split.{IsRecord}
+use Rattle.walk.proofs.Walks.{place-end}
+use Rattle.judge.specs.declared.Tally.{Tally}
+use Rattle.judge.specs.Tallies.{FullTally}
+use Rattle.judge.specs.Answers.{refused}
+use Rattle.judge.specs.Functions.{Judging, ourJudge}
+use Rattle.judge.specs.Functions as judge
+use Rattle.judge.proofs.Answered.{refused-judged}
+use Rattle.run.specs.Runs.{judged, State, start, stateOf, answerOf, runnerOf}
+use Rattle.run.specs.Damage.{NoneFull, OneMore, uncounted, counted, Refuses, Unshaken, ChangesNothing}
+use Rattle.run.proofs.Records.{judges, stateIn, state-in, answer-in}
+use Rattle.run.proofs.Apart.{Apart, later-alike}
+
+-- a refusal is one more seen and refused
+pub one-refused : (n : ℕ) (counting : Option Tally) → OneMore (judge.counted (refused n) counting) counting
+one-refused n none = uncounted
+one-refused n (some t) = counted
+
+-- a damaged record gets its refusal where the tally isn't full
+refuses : {program damaged : List ℕ} {why : Refusal} → Valid program → Octets damaged → RefusedWith damaged why → (s : State) → (FullTally (s .counting) → ⊥)
+    → Refuses s why (ourJudge program damaged (s .lines) (s .counting))
+refuses v o x s n =
+    rw (refused-judged v n o x (length (s .lines)))
+    (record { numbered = refl; no-steps = refl; unwritten = refl; lines-left = refl; counts = one-refused _ (s .counting) })
+
+module _ (program before damaged after : List ℕ) {records : List (List ℕ)} (j : Joined IsRecord records before) (lines : List ℕ) (counting : Option Tally) where
+  -- where each run has come to after the records before
+  abbrev wholeHere : State
+  wholeHere = stateOf (runnerOf ourJudge) program (before ++ (damaged ++ after)) (start lines counting) (length records)
+
+  abbrev cleanHere : State
+  cleanHere = stateOf (runnerOf ourJudge) program (before ++ after) (start lines counting) (length records)
+
+  -- it is the same
+  here-same : wholeHere ≡ cleanHere
+  here-same =
+      state-in ourJudge program j (damaged ++ after) lines counting (length records) (omega arith)
+      ∙ sym (state-in ourJudge program j after lines counting (length records) (omega arith))
+
+  here-placed : wholeHere .at ≡ length before
+  here-placed =
+      rw (state-in ourJudge program j (damaged ++ after) lines counting (length records) (omega arith))
+      (place-end j (length records) (omega arith))
+
+  -- earlier answers are the same
+  earlier : (k : ℕ) → k < length records
+      → answerOf (runnerOf ourJudge) program (before ++ (damaged ++ after)) (start lines counting) k
+      ≡ answerOf (runnerOf ourJudge) program (before ++ after) (start lines counting) k
+  earlier k h =
+      answer-in ourJudge program j (damaged ++ after) lines counting k h
+      ∙ sym (answer-in ourJudge program j after lines counting k h)
+
+  -- there the damaged record is judged
+  abbrev answer : Judging
+  answer = ourJudge program damaged (wholeHere .lines) (wholeHere .counting)
+
+  itself : IsRecord damaged damaged
+      → answerOf (runnerOf ourJudge) program (before ++ (damaged ++ after)) (start lines counting) (length records) ≡ judged answer (length before + length damaged)
+  itself is =
+      rw here-placed
+      (judges ourJudge program (record { before = before; after = after; split = refl; placed = refl; is = is }) (wholeHere .lines) (wholeHere .counting))
+
+  -- and once it is refused, the runs are apart by it
+  apart : IsRecord damaged damaged → {why : Refusal} → Refuses wholeHere why answer
+      → Apart program before damaged after (stateOf (runnerOf ourJudge) program (before ++ (damaged ++ after)) (start lines counting) (suc (length records))) cleanHere
+  unfolding stateOf
+  apart is x =
+      rw (itself is, ← here-same)
+      (record {
+        gone = 0;
+        further-on = omega arith;
+        placed = omega (arith, here-placed);
+        same-lines = x .lines-left;
+        one-more = x .counts;
+      })
+
+pub changes-nothing : ChangesNothing (runnerOf ourJudge)
+changes-nothing = record { unshaken = unshaken }
+  where
+    unshaken : {program before damaged after : List ℕ} {records : List (List ℕ)} {why : Refusal} → Valid program
+        → Joined IsRecord records before → IsRecord damaged damaged → Octets damaged → RefusedWith damaged why
+        → (lines : List ℕ) (counting : Option Tally)
+        → NoneFull (runnerOf ourJudge) program (before ++ (damaged ++ after)) (start lines counting)
+        → NoneFull (runnerOf ourJudge) program (before ++ after) (start lines counting)
+        → Unshaken (runnerOf ourJudge) program before damaged after (length records) why (start lines counting)
+    unshaken {program} {before} {damaged} {after} {records} v j is o x lines counting m n =
+        let e = itself program before damaged after j lines counting is in
+        let r = refuses v o x _ (m .none-full (length records) e) in
+        record {
+          earlier = earlier program before damaged after j lines counting;
+          answer = answer program before damaged after j lines counting;
+          itself = e;
+          refusal = r;
+          later = λ k h. later-alike program before damaged after m n (length records) k h (apart program before damaged after j lines counting is r);
+        }

@@ -1,0 +1,5 @@
+pub mod Records
+pub mod RunOver
+pub mod Behind
+pub mod Apart
+pub mod Damaged

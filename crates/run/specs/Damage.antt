@@ -1,0 +1,68 @@
+-- A damaged record in a run: what a run over `before ++ damaged ++ after` has to do with one over `before ++ after`.
+use Prim.Native.Nat.{ℕ, suc, _+_, _≤_, _<_}
+use mathlib.Core.Path.{_≡_}
+use mathlib.Core.List.{List, _++_}
+use mathlib.Core.Option.{Option, some, none}
+use lib.ListN.{length}
+use Rattle.octets.specs.Numbers.{Octets}
+use Rattle.octets.specs.Rows.{Joined}
+use Rattle.message.specs.declared.Refusal.{Refusal}
+use Rattle.message.specs.Refusals.{RefusedWith, number}
+use Rattle.program.specs.Validity.{Valid}
+use Rattle.walk.specs.Split.{IsRecord}
+use Rattle.judge.specs.declared.Tally.{Tally}
+use Rattle.judge.specs.Tallies.{FullTally, tally}
+use Rattle.judge.specs.Functions.{Judging}
+use Rattle.run.specs.Runs.{Stepped, judged, done, cut, Runner, State, start, stateOf, answerOf}
+
+-- no record of a run is judged with a full tally
+pub record NoneFull (runner : Runner) (program bytes : List ℕ) (s : State) : Type 0 where
+  pub none-full : (k : ℕ) {j : Judging} {next : ℕ} → answerOf runner program bytes s k ≡ judged j next
+      → FullTally (stateOf runner program bytes s k .counting) → ⊥
+
+-- one more seen and one more refused, or no tally
+pub data OneMore : Option Tally → Option Tally → Type 0 where
+  uncounted : OneMore none none
+  counted : {t : Tally} → OneMore (some (tally (t .seen + 1) (t .kept) (t .dropped) (t .refused + 1))) (some t)
+
+-- the same number, steps, bytes written and line buffer
+pub record SameAnswer (a b : Judging) : Type 0 where
+  pub same-number : a .number ≡ b .number
+  pub same-steps : a .steps ≡ b .steps
+  pub same-written : a .written ≡ b .written
+  pub same-lines : a .lines ≡ b .lines
+  pub one-more : OneMore (a .tally) (b .tally)
+
+-- the same later answer, at places that lie so many bytes apart
+pub data Same (size : ℕ) : Stepped → Stepped → Type 0 where
+  both-judged : {a b : Judging} {p q : ℕ} → SameAnswer a b → p ≡ q + size → Same size (judged a p) (judged b q)
+  both-done : Same size done done
+  both-cut : {left : ℕ} → Same size (cut left) (cut left)
+
+-- the damaged record gets its refusal: no byte of the line buffer changes, and it counts as one seen and one refused
+pub record Refuses (s : State) (why : Refusal) (j : Judging) : Type 0 where
+  pub numbered : j .number ≡ number why
+  pub no-steps : j .steps ≡ 0
+  pub unwritten : j .written ≡ 0
+  pub lines-left : j .lines ≡ s .lines
+  pub counts : OneMore (j .tally) (s .counting)
+
+-- what the damaged record does to a run that has come to it after some records
+pub record Unshaken (runner : Runner) (program before damaged after : List ℕ) (records : ℕ) (why : Refusal) (s : State) : Type 0 where
+  -- earlier answers are the same
+  pub earlier : (k : ℕ) → k < records → answerOf runner program (before ++ (damaged ++ after)) s k ≡ answerOf runner program (before ++ after) s k
+  -- its own answer
+  pub answer : Judging
+  pub itself : answerOf runner program (before ++ (damaged ++ after)) s records ≡ judged answer (length before + length damaged)
+  pub refusal : Refuses (stateOf runner program (before ++ (damaged ++ after)) s records) why answer
+  -- later answers are the same, one step later
+  pub later : (k : ℕ) → records ≤ k
+      → Same (length damaged) (answerOf runner program (before ++ (damaged ++ after)) s (suc k)) (answerOf runner program (before ++ after) s k)
+
+-- with a valid program, records before it whose lengths are right, its own length right, whatever it is otherwise refused for, and no tally full in either run
+pub record ChangesNothing (runner : Runner) : Type 1 where
+  pub unshaken : {program before damaged after : List ℕ} {records : List (List ℕ)} {why : Refusal} → Valid program
+      → Joined IsRecord records before → IsRecord damaged damaged → Octets damaged → RefusedWith damaged why
+      → (lines : List ℕ) (counting : Option Tally)
+      → NoneFull runner program (before ++ (damaged ++ after)) (start lines counting) → NoneFull runner program (before ++ after) (start lines counting)
+      → Unshaken runner program before damaged after (length records) why (start lines counting)

@@ -1,0 +1,3 @@
+pub mod Runs
+pub mod Damage
+pub mod Stepping
