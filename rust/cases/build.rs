@@ -1,4 +1,4 @@
-//! Builds the proved archive, which is linked.
+//! Builds the proved archive, which is linked, and the proved program, which the tests run.
 
 use std::path::Path;
 use std::process::Command;
@@ -21,6 +21,7 @@ fn rt(root: &Path, words: [&str; 2]) {
 fn main() {
     let root = Path::new(env!("CARGO_MANIFEST_DIR")).join("../..");
     rt(&root, ["staticlib", "grainlantern_c"]);
+    rt(&root, ["check", "grainlantern"]);
     let archives = root.join("target/staticlib");
     println!("cargo:rustc-link-search=native={}", archives.display());
     println!("cargo:rustc-link-lib=static=grainlantern_c");
@@ -28,6 +29,7 @@ fn main() {
         "crates",
         "crates.txt",
         "target/staticlib/libgrainlantern_c.a",
+        "target/bin/grainlantern",
     ] {
         println!(
             "cargo:rerun-if-changed={}",
