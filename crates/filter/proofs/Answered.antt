@@ -10,7 +10,8 @@ use borrow.Author.Tests.{lt-ltb, le-ltb}
 use Rattle.program.specs.Readings.{Reading, weight}
 use Rattle.program.specs.Records.{weightLimit}
 use Rattle.program.specs.Layout.{recordSize}
-use Rattle.token.specs.Texts.{textLimit, levelLimit}
+use Rattle.token.specs.Texts.{textLimit}
+use Rattle.filter.specs.Levels.{levelLimit}
 use Rattle.token.specs.Tokens.{Placed, Lexes, Unclosed}
 use Rattle.token.specs.Lexer.{Lexed, tokens, unclosed}
 use Rattle.token.specs.Lexer as lexer

@@ -18,7 +18,8 @@ use Rattle.program.specs.Records.{weightLimit}
 use Rattle.program.specs.Compiling.{records, programOf}
 use Rattle.program.proofs.LayoutLaws.{encodeAll-length}
 use Rattle.program.proofs.MachineLaws.{length-records}
-use Rattle.token.specs.Texts.{textLimit, levelLimit}
+use Rattle.token.specs.Texts.{textLimit}
+use Rattle.filter.specs.Levels.{levelLimit}
 use Rattle.token.specs.Lexer as lexer
 use Rattle.token.specs.Next.{left, Closed, nextAt, allowedFront, unclosedAt}
 use Rattle.token.specs.declared.Kind.the-variants.{End}

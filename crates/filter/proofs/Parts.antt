@@ -17,7 +17,8 @@ use Rattle.program.specs.declared.Fields.{Fields}
 use Rattle.program.specs.Readings.{Operator, and, or, Reading, neg, joint, weight}
 use Rattle.program.specs.Layout.{recordSize, fields, laid, operatorKind}
 use Rattle.program.specs.Compiling.{programOf}
-use Rattle.token.specs.Texts.{textLimit, levelLimit}
+use Rattle.token.specs.Texts.{textLimit}
+use Rattle.filter.specs.Levels.{levelLimit}
 use Rattle.token.specs.Tokens.{Word, Token, open′, close, bang, word, quoted}
 use Rattle.token.specs.Next.{nextAt, bytesIn, tokenOf, tokenIn}
 use Rattle.token.specs.declared.Kind.{Kind}

@@ -6,10 +6,9 @@ use mathlib.Core.List.{List, [], _∷_, _++_, append-nil, nil≢cons, head-eq-of
 use lib.ListN.{length, length-append}
 use lib.Seq.{drop-at}
 use Rattle.program.specs.Readings.{Reading}
-use Rattle.token.specs.Texts.{levelLimit}
 use Rattle.token.specs.Tokens.{Token, Placed, placed, Lexes}
 use Rattle.filter.specs.Grammar.{expression, Reads}
-use Rattle.filter.specs.Levels.{levels}
+use Rattle.filter.specs.Levels.{levelLimit, levels}
 use Rattle.filter.specs.Answers.{Leads, bare, Fine, Reaches, Derives, Answers}
 use Rattle.filter.specs.Answers as answers
 use Rattle.filter.specs.Answering.{numberOf, refusalOf, startOf, placeOf}

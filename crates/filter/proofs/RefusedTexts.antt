@@ -5,11 +5,10 @@ use mathlib.Core.Path.{_≡_}
 use mathlib.Core.List.{List, [], _∷_, _++_}
 use lib.ListN.{length}
 use Rattle.program.specs.Readings.{Reading}
-use Rattle.token.specs.Texts.{levelLimit}
 use Rattle.token.specs.Tokens.{Token, Placed, placed, Lexes}
 use Rattle.token.proofs.LexPlaces.{unclosed-within}
 use Rattle.filter.specs.Grammar.{expression, Reads}
-use Rattle.filter.specs.Levels.{Open}
+use Rattle.filter.specs.Levels.{levelLimit, Open}
 use Rattle.filter.specs.Answers.{Alive, Leads, Stands, bare, Reaches, refused, Answers, too-long, forbidden, unclosed, bad-token, bad-end, bad-operand, too-deep, too-heavy, no-room}
 use Rattle.filter.specs.Refused.{Placement, size, weight, room, within, at-end, FirstToken, FirstRefused, a-token, the-end, an-operand, a-level}
 use Rattle.filter.proofs.Refusals.{leads-alive, earlier, deep-ends, deep-opener}

@@ -9,10 +9,10 @@ use Rattle.octets.proofs.Encode as list
 use Rattle.program.specs.Readings.{Reading, weight}
 use Rattle.program.specs.Records.{weightLimit}
 use Rattle.program.specs.Layout.{recordSize}
-use Rattle.token.specs.Texts.{textLimit, levelLimit, Blank, space, tab, lineFeed, Allowed, printed, Every, none, more}
+use Rattle.token.specs.Texts.{textLimit, Blank, space, tab, lineFeed, Allowed, printed, Every, none, more}
 use Rattle.token.specs.Tokens.{Token, open′, close, bang, word, quoted, Mark, opening, closing, banging, Letter, Stops, before, Placed, placed, Lexes, nothing, blanks, marks, words, quotes}
 use Rattle.filter.specs.Grammar.{expression, Reads}
-use Rattle.filter.specs.Levels.{levels}
+use Rattle.filter.specs.Levels.{levelLimit, levels}
 use Rattle.filter.specs.Answers.{bare, Derives, compiled, Answers, compiles}
 use Rattle.operand.proofs.FrontReads.{run-append, run-map}
 

@@ -8,7 +8,8 @@ use mathlib.Core.List.{List, [], _∷_, _++_, append-assoc}
 use lib.ListN.{length}
 use lib.Dec.{ltb}
 use borrow.Author.Tests.{le-ltb}
-use Rattle.token.specs.Texts.{textLimit, levelLimit}
+use Rattle.token.specs.Texts.{textLimit}
+use Rattle.filter.specs.Levels.{levelLimit}
 use Rattle.token.specs.Tokens.{Token, Placed, placed}
 use Rattle.token.specs.Next.{left, Closed, nextAt, tokenIn}
 use Rattle.token.specs.declared.Kind.the-variants.{End}

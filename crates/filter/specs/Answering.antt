@@ -8,7 +8,8 @@ use Rattle.program.specs.Readings.{Reading, weight}
 use Rattle.program.specs.Records.{weightLimit}
 use Rattle.program.specs.Layout.{recordSize}
 use Rattle.program.specs.Compiling.{programOf}
-use Rattle.token.specs.Texts.{textLimit, levelLimit}
+use Rattle.token.specs.Texts.{textLimit}
+use Rattle.filter.specs.Levels.{levelLimit}
 use Rattle.token.specs.Tokens.{Token, Placed}
 use Rattle.token.specs.Lexer.{Lexed, tokens, unclosed}
 use Rattle.token.specs.Lexer as lexer

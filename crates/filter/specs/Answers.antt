@@ -6,11 +6,11 @@ use lib.ListN.{length, getD}
 use Rattle.program.specs.Readings.{Reading, weight}
 use Rattle.program.specs.Records.{weightLimit}
 use Rattle.program.specs.Layout.{recordSize}
-use Rattle.token.specs.Texts.{textLimit, levelLimit, Allowed, Every}
+use Rattle.token.specs.Texts.{textLimit, Allowed, Every}
 use Rattle.token.specs.Tokens.{Word, Token, bang, word, Placed, placed, Lexes, Unclosed}
 use Rattle.filter.specs.Words.{name, Says}
 use Rattle.filter.specs.Grammar.{Operand, Part, expression, Reads}
-use Rattle.filter.specs.Levels.{levels, Open}
+use Rattle.filter.specs.Levels.{levelLimit, levels, Open}
 use Rattle.operand.specs.declared.Name.{Name}
 
 -- some continuation of these tokens is derived: tokens of any number may follow

@@ -9,6 +9,10 @@ use Rattle.program.specs.Readings.{Reading}
 use Rattle.token.specs.Tokens.{Token}
 use Rattle.filter.specs.Grammar.{Part, expression, Reads, flagged, tested, negated, grouped, single, anded, lone, ored}
 
+-- the most levels open at once
+abbrev pub levelLimit : ℕ
+levelLimit = 32
+
 -- the `(` and `!` among the first n tokens whose factor goes on after them
 unfoldable pub openAt : {p : Part} {ts : List Token} {r : Reading} → Reads p ts r → ℕ → ℕ
 openAt (flagged q) n = 0

@@ -9,7 +9,8 @@ use lib.Seq.{sets}
 use Rattle.program.specs.Readings.{hasLoop, hasBogon, Operator, and, or, Reading, weight}
 use Rattle.program.specs.Layout.{recordSize}
 use Rattle.program.specs.Compiling.{programOf}
-use Rattle.token.specs.Texts.{textLimit, levelLimit}
+use Rattle.token.specs.Texts.{textLimit}
+use Rattle.filter.specs.Levels.{levelLimit}
 use Rattle.token.specs.Tokens.{Token, open′, close, bang, word, quoted, Placed}
 use Rattle.token.specs.Next.{left, Closed, nextAt, tokenIn}
 use Rattle.token.specs.declared.Kind.{Kind}

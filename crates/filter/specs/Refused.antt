@@ -4,10 +4,9 @@ use mathlib.Core.Path.{_≡_}
 use mathlib.Core.List.{List, [], _∷_, _++_}
 use lib.ListN.{length}
 use Rattle.program.specs.Readings.{Reading}
-use Rattle.token.specs.Texts.{levelLimit}
 use Rattle.token.specs.Tokens.{Token, open′, bang, Placed, placed, Lexes}
 use Rattle.filter.specs.Grammar.{expression, Reads}
-use Rattle.filter.specs.Levels.{Open}
+use Rattle.filter.specs.Levels.{levelLimit, Open}
 use Rattle.filter.specs.Answers.{Alive, Leads, Stands, bare}
 
 -- a `(` or a `!`

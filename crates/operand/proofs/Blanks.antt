@@ -6,29 +6,15 @@ use mathlib.Core.Bool.{Bool, true, false}
 use mathlib.Core.List.{List, _++_, append-assoc}
 use lib.Dec.{eqb}
 use lib.ListN.{length, getD}
-use borrow.Author.Tests.{eqb-true, ne-eqb}
-use Rattle.octets.specs.Choice.{pick}
-use Rattle.octets.proofs.Choices.{never, either}
+use borrow.Author.Tests.{ne-eqb}
+use Rattle.octets.proofs.Choices.{never}
 use Rattle.token.specs.Texts.{Blank, space, tab, lineFeed, Every, none, more}
 use Rattle.operand.specs.Decimals.{Decimal, digit, more}
+use Rattle.token.proofs.ByteTests.{blank-sound, blank-complete}
 use Rattle.operand.proofs.FrontReads.{Run, Stops, other, first-other, run-map}
 use Rattle.operand.proofs.Decimals.{digit-is}
 use Rattle.operand.specs.Decimals.{isDigit}
-use Rattle.operand.specs.Fronts.{isBlank}
-
--- a byte that passes is a blank
-pub blank-sound : (b : ℕ) → isBlank b ≡ true → Blank b
-unfolding isBlank
-blank-sound b e =
-    either (eqb b 32) (pick (eqb b 9) true (eqb b 10)) e (λ t. rw (eqb-true b 32 t) space)
-    (λ u. either (eqb b 9) (eqb b 10) u (λ t. rw (eqb-true b 9 t) tab) (λ t. rw (eqb-true b 10 t) lineFeed))
-
--- and every blank passes
-pub blank-complete : (b : ℕ) → Blank b → isBlank b ≡ true
-unfolding isBlank
-blank-complete b space = refl
-blank-complete b tab = refl
-blank-complete b lineFeed = refl
+use Rattle.token.specs.Next.{isBlank}
 
 -- bytes that pass are blanks
 pub blanks-sound : {l : List ℕ} → Run isBlank l → Every Blank l
@@ -36,7 +22,7 @@ blanks-sound h = run-map blank-sound h
 
 -- and blanks pass
 pub blanks-complete : {l : List ℕ} → Every Blank l → Run isBlank l
-blanks-complete h = run-map blank-complete h
+blanks-complete h = run-map (λ b k. blank-complete k) h
 
 -- a test that p passes and q doesn't tells bytes apart
 pub apart : (p : ℕ → Bool) {x : ℕ} (b : ℕ) → p x ≡ true → p b ≡ false → eqb x b ≡ false

@@ -14,7 +14,8 @@ use Rattle.operand.proofs.FrontReads.{Got, Run, Stops, end, other, afte
 use Rattle.operand.proofs.Decimals.{number-sound, number-complete, number-none}
 use Rattle.operand.proofs.Blanks.{blanks-sound, blanks-complete, digit-no-blank, blank-stops, decimal-stops}
 use Rattle.operand.specs.Patterns.{ItemText, a-number, not-it, any, ItemsText, empty, last, more, itemRead, followed, firstItem, itemsRead, allItems}
-use Rattle.operand.specs.Fronts.{Read, read, after, cut, isBlank}
+use Rattle.operand.specs.Fronts.{Read, read, after, cut}
+use Rattle.token.specs.Next.{isBlank}
 use Rattle.operand.specs.Decimals.{isDigit}
 
 -- ---- an item

@@ -16,7 +16,8 @@ use Rattle.operand.proofs.Blanks.{blanks-sound, blanks-complete}
 use Rattle.operand.proofs.Decimals.{number-none}
 use Rattle.operand.proofs.OperandItems.{Listed, at-end, dollar, items-sound, items-complete}
 use Rattle.operand.specs.Patterns.{ItemsText, PatternOperand, itemRead, itemsRead, allItems, somewhat, closed, opened, listed, patternOperand, itemsIn}
-use Rattle.operand.specs.Fronts.{Read, read, ended, after, optional, cut, isBlank}
+use Rattle.operand.specs.Fronts.{Read, read, ended, after, optional, cut}
+use Rattle.token.specs.Next.{isBlank}
 use Rattle.operand.specs.Decimals.{isDigit}
 
 -- a pattern that was found is not wholly empty

@@ -9,14 +9,16 @@ use lib.ListN.{length}
 use Rattle.octets.proofs.Choices.{never}
 use Rattle.program.specs.Readings.{Peer, byBoth}
 use Rattle.token.specs.Texts.{Blank, Every, none, more}
-use Rattle.operand.specs.Fronts.{Read, read, cut, isBlank}
+use Rattle.operand.specs.Fronts.{Read, read, cut}
+use Rattle.token.specs.Next.{isBlank}
 use Rattle.operand.specs.Decimals.{isDigit}
 use Rattle.operand.specs.Addresses.{Address, addressRead}
 use Rattle.operand.specs.Peers.{PeerOperand, by-as, by-address, by-both, behindAddress, peerBy, peerOperand}
 use Rattle.operand.proofs.Holding.{Holds, nothing, held, holds-onward, holds-pick}
 use Rattle.operand.proofs.FrontReads.{Got, Run, end, cut-joined, cut-run, cut-exact}
 use Rattle.operand.proofs.Decimals.{decimal-run, numeral-sound, numeral-complete}
-use Rattle.operand.proofs.Blanks.{blank-sound, blank-complete, blanks-sound, blanks-complete, digit-no-blank, blank-stops, decimal-stops}
+use Rattle.token.proofs.ByteTests.{blank-sound, blank-complete}
+use Rattle.operand.proofs.Blanks.{blanks-sound, blanks-complete, digit-no-blank, blank-stops, decimal-stops}
 use Rattle.operand.proofs.OperandAddresses.{address-sound, address-complete}
 
 -- a peer that was read is meant
@@ -66,4 +68,4 @@ peer-complete (by-both {bs} {gap} {cs} {l} {a} {n} x g h b e) = rw (e, address-c
     go none h = absurd (omega arith)
     go (more {b = y} {bs = ys} p ps) h =
         let s = rw (append-nil cs) at (decimal-stops isBlank digit-no-blank (b .decimal) []) in
-        rw (blank-complete y p, cut-exact isBlank (blanks-complete ps) s, numeral-complete b)
+        rw (blank-complete p, cut-exact isBlank (blanks-complete ps) s, numeral-complete b)

@@ -20,7 +20,8 @@ use Rattle.operand.specs.declared.ItemRead.the-variants.{Read as Found, 
 use Rattle.operand.specs.declared.Number.{Number as Numbers}
 use Rattle.operand.specs.declared.Number.the-variants.{Read as Numeral, Missing as Unread}
 use Rattle.operand.specs.Decimals.{leftAt, Numbered}
-use Rattle.operand.specs.Fronts.{Read, read, after, optional, cut, isBlank}
+use Rattle.operand.specs.Fronts.{Read, read, after, optional, cut}
+use Rattle.token.specs.Next.{isBlank}
 use Rattle.operand.specs.Patterns.{itemRead, followed, itemsRead, allItems, BlanksEnd, OptionalEnd, itemLeft, ItemAt, ItemsAt}
 
 -- ---- one byte at a place

@@ -46,6 +46,3 @@ optional b l = chosen l (after b l)
 unfoldable pub cut : (ℕ → Bool) → List ℕ → Read (List ℕ)
 cut p [] = read [] []
 cut p (b ∷ bs) = pick (p b) (read (b ∷ cut p bs .value) (cut p bs .rest)) (read [] (b ∷ bs))
-
-unfoldable pub isBlank : ℕ → Bool
-isBlank b = pick (eqb b 32) true (pick (eqb b 9) true (eqb b 10))

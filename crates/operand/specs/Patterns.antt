@@ -10,7 +10,8 @@ use Rattle.aspath.specs.declared.Item.{Item}
 use Rattle.aspath.specs.declared.Item.the-variants.{Number, Other, Any}
 use Rattle.aspath.specs.Patterns.{Pattern}
 use Rattle.token.specs.Texts.{Blank, Every}
-use Rattle.operand.specs.Fronts.{onward, orElse, Read, read, ended, after, optional, cut, isBlank}
+use Rattle.operand.specs.Fronts.{onward, orElse, Read, read, ended, after, optional, cut}
+use Rattle.token.specs.Next.{isBlank}
 use Rattle.operand.specs.Decimals.{AsNumber, number}
 use Rattle.operand.specs.declared.ItemRead.{ItemRead}
 use Rattle.operand.specs.declared.ItemRead.the-variants.{Read as Found, Missing}

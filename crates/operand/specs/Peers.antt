@@ -7,7 +7,8 @@ use lib.ListN.{length}
 use Rattle.octets.specs.Choice.{pick}
 use Rattle.program.specs.Readings.{Peer, byAs, byAddress, byBoth}
 use Rattle.token.specs.Texts.{Blank, Every}
-use Rattle.operand.specs.Fronts.{onward, Read, cut, isBlank}
+use Rattle.operand.specs.Fronts.{onward, Read, cut}
+use Rattle.token.specs.Next.{isBlank}
 use Rattle.operand.specs.Decimals.{AsNumber, numeral}
 use Rattle.operand.specs.Addresses.{Address, addressRead}
 

@@ -10,7 +10,8 @@ ghost use Rattle.octets.specs.Writes.{Written};
 ghost use Rattle.program.specs.Readings.{byAs};
 ghost use Rattle.program.specs.Records.{item};
 ghost use Rattle.program.specs.Layout.{fields, fieldsOf, encodeAll, relationCode, sideIs};
-ghost use Rattle.operand.specs.Fronts.{onward, orElse, isBlank};
+ghost use Rattle.operand.specs.Fronts.{onward, orElse};
+ghost use Rattle.token.specs.Next.{isBlank};
 ghost use Rattle.operand.specs.Decimals.{isDigit, numeral, valueOf, Numbered, ReadAt};
 ghost use Rattle.operand.specs.Codes.{same, found, nameOf, codeOf, namedCode, typeNames, attributeNames};
 ghost use Rattle.operand.specs.Addresses.{part, addressRead, networkText};
@@ -330,19 +331,6 @@ fn network_operand(relation: Relation, bytes: &[u8]) -> Meant
     network_record(bytes, 0, relation, 0)
 }
 
-// Whether a byte is a blank: space, tab, LF.
-fn is_blank(b: u8) -> bool
-    ensures { λ r. ⌜ r ≡ isBlank b ⌝ }
-{
-    if b == b' ' {
-        return true;
-    }
-    if b == b'\t' {
-        return true;
-    }
-    b == b'\n'
-}
-
 // Where the blanks at a place end.
 fn blanks_end(s: &[u8], at: usize) -> usize
     requires { ⌜ at ≤ length (now s) ⌝ }
@@ -350,7 +338,7 @@ fn blanks_end(s: &[u8], at: usize) -> usize
 {
     let mut p = at;
     while p < s.len() {
-        if !is_blank(s[p]) {
+        if !token::is_blank(s[p]) {
             return p;
         }
         p += 1;
@@ -366,7 +354,7 @@ fn peer_behind(bytes: &[u8], at: usize, address: u32) -> Meant
     if bytes.len() <= at {
         return head(5, 2, 0, address, 0);
     }
-    if !is_blank(bytes[at]) {
+    if !token::is_blank(bytes[at]) {
         return Meant::Broken;
     }
     let next = blanks_end(bytes, at + 1);

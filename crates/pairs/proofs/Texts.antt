@@ -15,7 +15,8 @@ use Rattle.program.specs.Readings.{Test, Reading, itemCount, weight, verdict, s
 use Rattle.program.specs.Layout.{recordSize}
 use Rattle.token.specs.Lexer.{sort, lex}
 use Rattle.token.specs.Next.{run}
-use Rattle.operand.specs.Fronts.{after, optional, cut, isBlank}
+use Rattle.operand.specs.Fronts.{after, optional, cut}
+use Rattle.token.specs.Next.{isBlank}
 use Rattle.operand.specs.Decimals.{isDigit, numberOn, number, numeral}
 use Rattle.operand.specs.Codes.{same, found}
 use Rattle.operand.specs.Addresses.{part, addressRead, networkText, networkOperand}

@@ -5,12 +5,9 @@ use mathlib.Core.List.{List, [], _∷_}
 use lib.Dec.{leb, eqb}
 use Rattle.octets.specs.Choice.{pick}
 
--- the most bytes of a text, and the most levels open at once
+-- the most bytes of a text
 abbrev pub textLimit : ℕ
 textLimit = 4096
-
-abbrev pub levelLimit : ℕ
-levelLimit = 32
 
 -- a blank: space, tab, LF
 pub data Blank : ℕ → Type 0 where

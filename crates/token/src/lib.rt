@@ -31,7 +31,8 @@ enum Run {
     Allowed,
 }
 
-fn blank(b: u8) -> bool
+// Whether a byte is a blank: space, tab, LF.
+pub fn is_blank(b: u8) -> bool
     ensures { λ r. ⌜ r ≡ isBlank b ⌝ }
 {
     if b == b' ' {
@@ -58,7 +59,7 @@ fn letter(b: u8) -> bool
     if b == b'\'' {
         return false;
     }
-    !blank(b)
+    !is_blank(b)
 }
 
 fn permitted(b: u8) -> bool
@@ -81,7 +82,7 @@ fn goes_on(run: Run, b: u8) -> bool
     ensures { λ r. ⌜ r ≡ isIn run b ⌝ }
 {
     match run {
-        Run::Blanks => blank(b),
+        Run::Blanks => is_blank(b),
         Run::Letters => letter(b),
         Run::Inner => b != b'\'',
         Run::Allowed => permitted(b),

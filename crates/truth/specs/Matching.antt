@@ -18,7 +18,7 @@ use Rattle.program.specs.declared.Fields.{Fields}
 use Rattle.program.specs.Readings.{Peer, byAs, byAddress, byBoth}
 use Rattle.program.specs.Layout.{itemIs}
 use Rattle.program.specs.Machine.{recordsIn, itemsAfter}
-use Rattle.truth.specs.Means.{all}
+use Rattle.program.specs.Validity.{all}
 
 -- ---- what the code computes
 

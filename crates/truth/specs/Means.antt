@@ -18,6 +18,7 @@ use Rattle.aspath.specs.Patterns.{Pattern, Matches, matches}
 use Rattle.attributes.specs.Attribute.{Attribute, atomicAggregate, codeOf, firstOf, askPath}
 use Rattle.message.specs.Message.{Message, update}
 use Rattle.message.specs.Represents.{addressBits}
+use Rattle.program.specs.Validity.{all}
 use Rattle.program.specs.Readings.{Peer, byAs, byAddress, byBoth, Side, eitherSide, announced, withdrawn, Comparison, equal, below, atMost, above, atLeast, Test, typeIs, hasAttribute, pathMatches, peerIs, hasLoop, hasBogon, networkIs, timeIs}
 
 -- the path of an UPDATE that has an AS_PATH
@@ -73,9 +74,6 @@ pub data Means (m : Message) : Test → Type 0 where
   time : {c : Comparison} {seconds micros : ℕ} → Compares c (m .seconds * second) (seconds * second + micros) → Means m (timeIs c seconds micros)
 
 -- ---- what the code computes
-
-abbrev pub all : Bool → Bool → Bool
-all a b = pick a b false
 
 abbrev pub isUpdate : Message → Bool
 isUpdate m = eqb (m .kind) update

@@ -5,7 +5,8 @@ use mathlib.Core.Path.{_≡_, refl, sym, _∙_}
 use borrow.Author.Tests.{not-true, not-false}
 use denote.Ref.{now}
 use lib.ListN.{length, drop}
-use Rattle.operand.specs.Fronts.{cut, isBlank}
+use Rattle.operand.specs.Fronts.{cut}
+use Rattle.token.specs.Next.{isBlank}
 use Rattle.operand.proofs.Places.{stops-here, stops-end, cut-onward, cut-stop}
 use Rattle.operand.proofs.blanks_end.Statement.{statement}
 use Rattle.operand.proofs.blanks_end.Tie as tie

@@ -11,7 +11,8 @@ use lib.ListN.{length, getD, drop, drop-of-length-le}
 use lib.Seq.{drop-cons}
 use Rattle.program.specs.Layout.{fieldsOf}
 use Rattle.program.specs.Compiling.{headOf}
-use Rattle.operand.specs.Fronts.{cut, isBlank}
+use Rattle.operand.specs.Fronts.{cut}
+use Rattle.token.specs.Next.{isBlank}
 use Rattle.operand.specs.Decimals.{numeral}
 use Rattle.operand.specs.Peers.{behindAddress}
 use Rattle.operand.proofs.Numbers.{value-none, value-some}

@@ -7,8 +7,8 @@ use Rattle.token.proofs.goes_on.Tie as tie
 enum-told : tie.Need-enum-told
 enum-told c = search needs
 
-blank-requires : tie.Need-blank-requires
-blank-requires c κs = search needs
+is-blank-requires : tie.Need-is-blank-requires
+is-blank-requires c κs = search needs
 
 enum-told-2 : tie.Need-enum-told-2
 enum-told-2 c = search needs
@@ -26,7 +26,7 @@ permitted-requires : tie.Need-permitted-requires
 permitted-requires c κs = search needs
 
 returns : tie.Need-returns
-returns c = rw (c .before .enum-told .given .1) (c .blank .ensures)
+returns c = rw (c .before .enum-told .given .1) (c .is-blank .ensures)
 
 returns-2 : tie.Need-returns-2
 returns-2 c = rw (c .before .enum-told2 .given .1) (c .letter .ensures)
@@ -43,7 +43,7 @@ goes-on-spec =
     tie.close
     (tie.spec
     enum-told
-    blank-requires
+    is-blank-requires
     enum-told-2
     letter-requires
     enum-told-3

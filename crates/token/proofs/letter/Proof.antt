@@ -23,8 +23,8 @@ returns-4 : tie.Need-returns-4
 unfolding isLetter
 returns-4 c = search (needs, eq-eqb, ne-eqb)
 
-blank-requires : tie.Need-blank-requires
-blank-requires c κs = search needs
+is-blank-requires : tie.Need-is-blank-requires
+is-blank-requires c κs = search needs
 
 returns-5 : tie.Need-returns-5
 unfolding isLetter
@@ -34,7 +34,7 @@ returns-5 c = let b = c .before .before .before .before .before .args .b in
       ne-eqb b 41 (c .before .before .before .if2 .left),
       ne-eqb b 33 (c .before .before .if3 .left),
       ne-eqb b 39 (c .before .if4 .left),
-    ) (ap not (c .blank .ensures))
+    ) (ap not (c .is-blank .ensures))
 
 pub letter-spec : {M : Type 1} → statement M
-letter-spec = tie.close (tie.spec returns returns-2 returns-3 returns-4 blank-requires returns-5)
+letter-spec = tie.close (tie.spec returns returns-2 returns-3 returns-4 is-blank-requires returns-5)

@@ -1,9 +1,9 @@
--- `token::blank` meets its contract. Assumes nothing.
+-- `token::is_blank` meets its contract. Assumes nothing.
 use borrow.Author.Needs.{needs}
 use borrow.Author.Tests.{eq-eqb, ne-eqb}
 use Rattle.token.specs.Next.{isBlank}
-use Rattle.token.proofs.blank.Statement.{statement}
-use Rattle.token.proofs.blank.Tie as tie
+use Rattle.token.proofs.is_blank.Statement.{statement}
+use Rattle.token.proofs.is_blank.Tie as tie
 
 returns : tie.Need-returns
 unfolding isBlank
@@ -17,5 +17,5 @@ returns-3 : tie.Need-returns-3
 unfolding isBlank
 returns-3 c = search (needs, ne-eqb)
 
-pub blank-spec : {M : Type 1} → statement M
-blank-spec = tie.close (tie.spec returns returns-2 returns-3)
+pub is-blank-spec : {M : Type 1} → statement M
+is-blank-spec = tie.close (tie.spec returns returns-2 returns-3)
