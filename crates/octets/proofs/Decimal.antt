@@ -4,7 +4,7 @@ use native.Mathlib.Nat.{pow-suc, lt-of-not-le}
 use native.Mathlib.Decide.{decLe}
 use native.Mathlib.Omega.{arith}
 use mathlib.Core.Path.{_≡_, refl, sym, ap, _∙_}
-use mathlib.Core.List.{List, [], _∷_, _++_}
+use mathlib.Core.List.{List, [], _∷_, _++_, append-assoc}
 use lib.ListN.{length, length-append, getD, List·getD-append}
 use borrow.Author.Tests.{lt-ltb, le-ltb}
 use Rattle.octets.specs.Decimal.{digits, decimal}
@@ -28,6 +28,16 @@ digits-next f n k h =
 
 pub decimal-next : (n : ℕ) → n < 2 ^ 32 → 10 ≤ n → decimal n ≡ decimal (n / 10) ++ ((n % 10 + 48) ∷ [])
 decimal-next n h k = digits-next 8 n k (omega arith)
+
+-- two digits
+pub decimal-pair : (n : ℕ) → 10 ≤ n → n < 100 → decimal n ≡ (n / 10 + 48) ∷ (n % 10 + 48) ∷ []
+decimal-pair n h k = decimal-next n (omega arith) h ∙ rw (digits-small 9 (n / 10) (omega arith)) refl
+
+-- the last two of more
+pub decimal-two : (n : ℕ) → n < 2 ^ 32 → 100 ≤ n → decimal n ≡ decimal (n / 100) ++ ((n / 10 % 10 + 48) ∷ (n % 10 + 48) ∷ [])
+decimal-two n h k =
+    let e : n / 10 / 10 ≡ n / 100 = omega arith in
+    decimal-next n h (omega arith) ∙ rw (decimal-next (n / 10) (omega arith) (omega arith), e) (append-assoc (decimal (n / 100)) _ _)
 
 pub digits-length : (f n : ℕ) → length (digits f n) ≤ f
 unfolding digits

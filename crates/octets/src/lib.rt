@@ -77,15 +77,33 @@ pub fn put(out: &mut [u8], at: usize, b: u8) -> usize
     at + 1
 }
 
-// Writes a number's decimal digits.
+// Writes two bytes, with one test where both are within the buffer.
+fn put_pair(out: &mut [u8], at: usize, a: u8, b: u8) -> usize
+    ensures { λ r. ⌜ Written (now (out .entry)) at (a ∷ b ∷ []) (now (out .exit)) r ⌝ }
+{
+    if 2 <= out.len() {
+        if at <= out.len() - 2 {
+            out[at] = a;
+            out[at + 1] = b;
+            return at + 2;
+        }
+    }
+    let next = put(out, at, a);
+    put(out, next, b)
+}
+
+// Writes a number's decimal digits, two at a time.
 pub fn put_decimal(out: &mut [u8], at: usize, n: u32) -> usize
     ensures { λ r. ⌜ Written (now (out .entry)) at (decimal n) (now (out .exit)) r ⌝ }
 {
     if n < 10 {
         return put(out, at, (n + 48) as u8);
     }
-    let next = put_decimal(out, at, n / 10);
-    put(out, next, (n % 10 + 48) as u8)
+    if n < 100 {
+        return put_pair(out, at, (n / 10 + 48) as u8, (n % 10 + 48) as u8);
+    }
+    let next = put_decimal(out, at, n / 100);
+    put_pair(out, next, (n / 10 % 10 + 48) as u8, (n % 10 + 48) as u8)
 }
 
 // Writes the width bytes of a number, the most significant first; nothing where the width is more than four.
