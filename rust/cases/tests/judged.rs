@@ -1,28 +1,8 @@
 //! Every row of judged.tsv: the number, the steps, the whole line buffer and the tally.
 
-use cases::{bytes, judge, judge_counted, rows, Tally};
+use cases::{bytes, judge, judge_counted, rows, tally};
 
 const FILL: u8 = 0xA5;
-
-/// `-` is no tally.
-fn tally(column: &str) -> Option<Tally> {
-    if column == "-" {
-        return None;
-    }
-    let counts: Vec<u32> = column
-        .split(',')
-        .map(|count| count.parse().expect(column))
-        .collect();
-    let [seen, kept, dropped, refused] = counts[..] else {
-        panic!("not four counts: {column}");
-    };
-    Some(Tally {
-        seen,
-        kept,
-        dropped,
-        refused,
-    })
-}
 
 #[test]
 fn every_record_gives_its_answer_and_tally() {
