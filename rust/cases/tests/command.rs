@@ -19,6 +19,9 @@ printf '#!/bin/sh\\nprintf \"%%s \" \"$1\"\\ncat\\n' >target/bin/grainlantern
 chmod +x target/bin/grainlantern
 ";
 
+/// The one source of a repository.
+const SOURCE: &str = "crates/one/src/source";
+
 /// A repository of one source, with the command, beside a folder `tools` for the search path.
 fn repository(name: &str, rt: Option<&str>) -> PathBuf {
     let root = Path::new(env!("CARGO_TARGET_TMPDIR")).join(name);
@@ -28,7 +31,8 @@ fn repository(name: &str, rt: Option<&str>) -> PathBuf {
     }
     fs::copy(path("bin/grainlantern"), root.join("bin/grainlantern")).unwrap();
     fs::write(root.join("crates.txt"), "one:\n").unwrap();
-    fs::write(root.join("crates/one/src/lib.rt"), "").unwrap();
+    // not named as a source of Rattle, which the gate would count as one that nothing proves
+    fs::write(root.join(SOURCE), "").unwrap();
     for tool in [
         "sh", "cat", "chmod", "dirname", "find", "head", "mkdir", "mv", "readlink", "tail", "uname",
     ] {

@@ -25,7 +25,7 @@ pub use compare::Difference;
 pub use counts::Counts;
 pub use tour::run;
 
-/// The same for several seeds at a time.
+/// The cases of several seeds, each in a thread of its own.
 pub fn run_beside(
     seeds: &[u64],
     more: impl Fn(u64) -> bool + Sync,

@@ -141,9 +141,10 @@ impl Tour {
         let program = program::valid(message, &mut self.random);
         let mut run = Vec::new();
         for _ in 0..self.random.below(5) {
-            let slips = match self.random.one_in(3) {
-                true => self.slips(11, 18),
-                false => Vec::new(),
+            let slips = if self.random.one_in(3) {
+                self.slips(11, 18)
+            } else {
+                Vec::new()
             };
             let next = Message::random(&mut self.random);
             run.extend(next.record(&slips, &mut self.random));
