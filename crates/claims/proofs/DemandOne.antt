@@ -18,6 +18,7 @@ use Rattle.judge.specs.Functions.{judgement, ourJudge}
 use Rattle.judge.specs.Functions.{counted as tallied}
 use Rattle.judge.proofs.Answered.{judge-given, only-judged}
 use Rattle.judge.proofs.Counting.{refused-number, declined-number}
+use Rattle.judge.proofs.Counting.{roomy as never-short}
 use Rattle.run.proofs.Damaged.{one-refused}
 use Rattle.claims.specs.Ours as ours
 use Rattle.claims.specs.Ours.{ourCompiler}
@@ -33,11 +34,17 @@ module _ {text buffer : List ℕ} where
     numbered = omega arith;
     refuses = λ n place h. (λ e. absurd (omega arith), λ b. let z : _≡_ {A = ℕ} 0 1 = cc (only (texts.refused n place) b) in absurd (omega arith));
     leaves = λ h. absurd (omega arith);
+    answer = texts.compiled r;
+    given = a;
+    is = refl;
   }
   of-text (texts.refused m q) a only = record {
     numbered = refused-numbered a .1;
     refuses = λ n place h. (λ e. rw (← e .0, ← e .1) a, λ b. (cc (only (texts.refused n place) b), cc (only (texts.refused n place) b)));
     leaves = λ h. refl;
+    answer = texts.refused m q;
+    given = a;
+    is = refl;
   }
 
 -- ---- records
@@ -52,25 +59,29 @@ module _ (program bytes lines : List ℕ) (counting : Option Tally) where
   Given o = records.Answers program bytes (length lines) counting o
 
   -- a verdict is no refusal
-  of-verdict : (o : records.Outcome) → judging.saidOf o .0 ≤ 1 → ((n : ℕ) → Given (records.refused n) → ⊥) → ((n : ℕ) → Given (records.declined n) → ⊥)
+  of-verdict : (o : records.Outcome) → Given o → judging.saidOf o .0 ≤ 1 → ((n : ℕ) → Given (records.refused n) → ⊥) → ((n : ℕ) → Given (records.declined n) → ⊥)
       → OfRecord program bytes lines counting (judgement o lines counting)
-  of-verdict o small no-refusal no-decline = record {
+  of-verdict o a small no-refusal no-decline = record {
     numbered = verdict small;
     refuses = λ n h k. (λ e. absurd (omega arith), λ b. absurd (no-refusal n b));
     declines = λ n h k. (λ e. absurd (omega arith), λ b. absurd (no-decline n b));
     leaves = λ h. absurd (omega arith);
     counts = λ h k. absurd (omega arith);
     uncounted = λ h. absurd (omega arith);
+    roomy = λ h e. omega arith;
+    answer = o;
+    given = a;
+    is = refl;
   }
 
   -- by the answer, where no other is given
   of-record : (o : records.Outcome) → Given o → ((p : records.Outcome) → Given p → o ≡ p) → OfRecord program bytes lines counting (judgement o lines counting)
   of-record (records.kept steps text) a only =
-      of-verdict (records.kept steps text) (omega arith)
+      of-verdict (records.kept steps text) a (omega arith)
       (λ n b. let z : _≡_ {A = ℕ} 0 1 = cc (only (records.refused n) b) in omega arith)
       (λ n b. let z : _≡_ {A = ℕ} 0 1 = cc (only (records.declined n) b) in omega arith)
   of-record (records.dropped steps) a only =
-      of-verdict (records.dropped steps) (omega arith)
+      of-verdict (records.dropped steps) a (omega arith)
       (λ n b. let z : _≡_ {A = ℕ} 0 1 = cc (only (records.refused n) b) in omega arith)
       (λ n b. let z : _≡_ {A = ℕ} 0 1 = cc (only (records.declined n) b) in omega arith)
   of-record (records.refused m) a only =
@@ -82,6 +93,10 @@ module _ (program bytes lines : List ℕ) (counting : Option Tally) where
         leaves = λ h. (refl, refl);
         counts = λ h k. one-refused m counting;
         uncounted = λ h. absurd (omega arith);
+        roomy = λ h e. omega arith;
+        answer = records.refused m;
+        given = a;
+        is = refl;
       }
   of-record (records.declined m) a only =
       let i = declined-number a in
@@ -92,6 +107,10 @@ module _ (program bytes lines : List ℕ) (counting : Option Tally) where
         leaves = λ h. (refl, refl);
         counts = λ h k. absurd (omega arith);
         uncounted = λ h. as-it-was m counting;
+        roomy = λ h e. never-short h (rw e at a);
+        answer = records.declined m;
+        given = a;
+        is = refl;
       }
 
 -- demand 1

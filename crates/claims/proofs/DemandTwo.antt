@@ -1,6 +1,7 @@
 -- Demand 2 holds of our compiler, our judge and our runner. Assumes nothing.
 use mathlib.Core.Path.{ap}
 use lib.ListN.{length}
+use Rattle.message.proofs.ReadableRecords.{readable-represents, represents-readable}
 use Rattle.judge.specs.Answers.{Outcome}
 use Rattle.judge.specs.Judging.{saidOf}
 use Rattle.judge.specs.Functions.{ourJudge}
@@ -15,6 +16,7 @@ use Rattle.claims.proofs.WholeNumbers.{whole}
 
 pub demand-two : DemandTwo ourCompiler ourJudge (runnerOf ourJudge)
 demand-two = record {
+  readable = λ o. (readable-represents o, λ x. represents-readable (x .1));
   on-message = λ {text} {buffer} e d x lines counting f. on-message text buffer e d x lines counting f;
   whole = whole;
   refused = λ v b x lines counting f. ap (λ (o : Outcome). saidOf o .0) (refused-judged v f b x (length lines));

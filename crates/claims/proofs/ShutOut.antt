@@ -3,21 +3,36 @@ use Prim.Native.Nat.{ℕ, zero, suc, _*_, _≤_}
 use native.Mathlib.Omega.{arith}
 use mathlib.Core.Path.{_≡_, refl, sym, ap, _∙_}
 use mathlib.Core.List.{List, [], _∷_, _++_}
-use mathlib.Core.Option.{none}
+use mathlib.Core.Option.{Option, some, none}
 use lib.ListN.{length, getD, take, drop, replicate, length-replicate}
 use lib.Seq.{take-at}
 use borrow.Author.Tests.{eq-eqb}
-use Rattle.octets.specs.Numbers.{numberAt, bytesOf}
+use Rattle.octets.specs.Numbers.{Octets, numberAt, bytesOf}
+use Rattle.octets.proofs.Bytes.{octets-append}
+use Rattle.octets.proofs.Encode.{octets-one, bytes-octets}
 use Rattle.octets.proofs.Choices.{never}
 use Rattle.message.specs.Message.{Message}
+use Rattle.message.proofs.RecordOctets.{represents-octets}
 use Rattle.line.specs.Line.{lineOf, linesOf}
-use Rattle.program.specs.Readings.{hasLoop, hasBogon, Reading, test, neg, itemCount, weight}
+use Rattle.program.specs.Readings.{hasLoop, hasBogon, Reading, test, neg, itemCount, weight, steps}
+use Rattle.program.specs.declared.Fields.{Fields}
+use Rattle.program.specs.Records as program
 use Rattle.program.specs.Layout.{recordSize, fieldsOf, laid, encodeAll}
 use Rattle.program.specs.Compiling.{headOf, itemsOf, records, programOf}
-use Rattle.walk.specs.Split.{headerSize, IsRecord, Splits, nothing}
+use Rattle.walk.specs.declared.Step.{Step}
+use Rattle.walk.specs.declared.Step.the-variants.{Record}
+use Rattle.walk.specs.Split.{headerSize, IsRecord, Splits, nothing, placeIn}
+use Rattle.walk.specs.Steps.{placeAfter}
 use Rattle.walk.proofs.Splits.{splits-append, splits-rest}
-use Rattle.judge.specs.Tallies.{FullTally}
-use Rattle.judge.specs.Functions.{Judge, ourJudge}
+use Rattle.truth.specs.Means.{isTrue}
+use Rattle.filter.proofs.CompiledValid.{reads-possible}
+use Rattle.judge.specs.declared.Tally.{Tally}
+use Rattle.judge.specs.Tallies.{FullTally, isFull, tally, oneDropped}
+use Rattle.judge.specs.Answers.{dropped}
+use Rattle.judge.specs.Judging.{judgeOf}
+use Rattle.judge.specs.Functions.{Judging, Judge, ourJudge}
+use Rattle.judge.proofs.Answered.{only-judged}
+use Rattle.judge.proofs.Readings.{reading-judged}
 use Rattle.judge.proofs.Tallies.{tally-complete}
 use Rattle.run.specs.Runs.{Runner}
 use Rattle.pairs.specs.RecordR.{recordR, messageR}
@@ -25,12 +40,13 @@ use Rattle.pairs.proofs.RecordR.{record-represents}
 use Rattle.pairs.proofs.Texts.{TextOnR}
 use Rattle.pairs.proofs.KnownPairs.{notLoopsText, not-loops}
 use Rattle.pairs.proofs.Samples.{loopsText, bogonText, loops, bogon}
-use Rattle.claims.specs.Functions.{Compiler, reported, judgedWith}
+use Rattle.claims.specs.Functions.{Compiler, reported, Walker, placeBy, stepBy}
 use Rattle.claims.specs.Ours.{ourCompiler}
 use Rattle.claims.specs.Walk.{Walks}
+use Rattle.claims.specs.DemandOne.{DemandOne}
 use Rattle.claims.specs.DemandTwo.{OnMessage, DemandTwo}
 use Rattle.claims.specs.DemandThree.{Compiles, Derived, JudgedSo, DemandThree}
-use Rattle.claims.specs.Wrong.{refusesAll, oneProgram, alwaysKeeps, writesNothing, stepsMadeUp, readsAll}
+use Rattle.claims.specs.Wrong.{RefusesAll, OneProgram, AlwaysKeeps, WritesNothing, StepsMadeUp, CountsNothing, ReadsAll, NeverMoves}
 use Rattle.claims.proofs.DemandThree.{demand-three, derived, compiled-compiles}
 
 -- ---- samples: `-loops`, `! -loops` and `-bogon-asn` on R
@@ -68,6 +84,42 @@ first-blank (suc n) = refl
 uncounted : FullTally none → ⊥
 uncounted f = never (tally-complete f)
 
+-- a program is bytes
+zero-octets : {l : List ℕ} → Octets l → Octets (0 ∷ l)
+zero-octets o = octets-append (octets-one 0 (omega arith)) o
+
+laid-octets : (f : Fields) → Octets (laid f)
+unfolding laid
+laid-octets f =
+    octets-append (bytes-octets 1 (f .kind))
+    (octets-append (bytes-octets 1 (f .variant))
+    (octets-append (bytes-octets 2 (f .count))
+    (octets-append (bytes-octets 4 (f .a))
+    (octets-append (bytes-octets 4 (f .b)) (zero-octets (zero-octets (zero-octets (octets-one 0 (omega arith)))))))))
+
+all-octets : (rs : List program.Record) → Octets (encodeAll rs)
+unfolding encodeAll
+all-octets [] = record { below = λ i. omega arith }
+all-octets (r ∷ rs) = octets-append (laid-octets (fieldsOf r)) (all-octets rs)
+
+program-octets : (r : Reading) → Octets (programOf r)
+program-octets r = all-octets (records r)
+
+-- a tally that isn't full
+abbrev none-seen : Tally
+none-seen = tally 0 0 0 0
+
+room-to-count : FullTally (some none-seen) → ⊥
+unfolding isFull
+room-to-count f = never (tally-complete f)
+
+abbrev tally-of : Judging → Option Tally
+tally-of j = j .tally
+
+abbrev seen-of : Option Tally → ℕ
+seen-of none = 0
+seen-of (some t) = t .seen
+
 module _ {Verdict : Message → Reading → Type 0} {text : List ℕ} {r : Reading} {count : ℕ} (t : TextOnR Verdict text r count) (few : weight r ≤ 2) where
   -- a sample compiles
   compiles : Compiles text (length buffer)
@@ -82,62 +134,84 @@ module _ {Verdict : Message → Reading → Type 0} {text : List ℕ} {r : Readi
       → (compiler text buffer .value ≡ length (programOf r)) × (compiler text buffer .buffer ≡ programOf r ++ drop (length (programOf r)) buffer)
   records-are compiler judge d = d text buffer [] [] none .records (number-is compiler judge d) (derived (t .derives))
 
-  -- and what is claimed of judging R with it
-  on-R : (judge : Judge) (runner : Runner) → DemandTwo ourCompiler judge runner → (lines : List ℕ) → OnMessage r messageR lines (judge (reported (ourCompiler text buffer)) recordR lines none)
-  on-R judge runner d lines = d .on-message {buffer = buffer} (number-is ourCompiler ourJudge demand-three) (derived (t .derives)) record-represents lines none uncounted
+  -- and reports that program's bytes
+  reported-are : (compiler : Compiler) (judge : Judge) → DemandThree compiler judge → reported (compiler text buffer) ≡ programOf r
+  reported-are compiler judge d =
+      let x = records-are compiler judge d in
+      rw (x .0, x .1) (take-at (programOf r) (drop (length (programOf r)) buffer) (length (programOf r)) refl)
+
+  module _ (compiler : Compiler) (judge : Judge) where
+    -- what is claimed of judging R with it, where another judge shows that the compiler compiles as demand 3 has it
+    on-R : (other : Judge) (runner : Runner) → DemandThree compiler other → DemandTwo compiler judge runner → (lines : List ℕ)
+        → OnMessage r messageR lines (judge (reported (compiler text buffer)) recordR lines none)
+    on-R other runner c d lines = d .on-message {buffer = buffer} (number-is compiler other c) (derived (t .derives)) record-represents lines none uncounted
+
+    -- and of its steps
+    steps-on-R : DemandThree compiler judge → JudgedSo r messageR room none (compiler text buffer) (judge (reported (compiler text buffer)) recordR room none)
+    steps-on-R d =
+        let e : compiler text buffer .number ≡ 0 = number-is compiler judge d in
+        rw (eq-eqb _ _ e) at (d text buffer recordR room none .judged e (derived (t .derives)) record-represents)
+
+-- judging R with `-loops` drops it
+loops-drop : judgeOf (programOf (test hasLoop)) recordR 0 (some none-seen) ≡ dropped (steps (isTrue messageR) (test hasLoop))
+loops-drop =
+    reading-judged (test hasLoop) (reads-possible (loops .derives .reads)) (omega (arith, few-loops)) record-represents room-to-count 0
+    (steps-on-R loops few-loops ourCompiler ourJudge demand-three .drops .1 (loops .verdict))
 
 -- ---- compilers
 
--- one that refuses all
-pub refuses-all : (judge : Judge) → DemandThree refusesAll judge → ⊥
-refuses-all judge d = let e : _≡_ {A = ℕ} 4 0 = number-is loops (few-loops) refusesAll judge d in omega arith
+module _ (compiler : Compiler) (judge : Judge) where
+  -- one that refuses all
+  pub refuses-all : RefusesAll compiler → DemandThree compiler judge → ⊥
+  refuses-all wrong d = wrong _ _ (number-is loops few-loops compiler judge d)
 
--- one that gives one program for every text: it would be that of `-loops` and that of `-bogon-asn`
-module _ (program : List ℕ) (compiler : Compiler) (judge : Judge) (d : DemandThree (oneProgram program compiler) judge) where
-  only : {Verdict : Message → Reading → Type 0} {text : List ℕ} {r : Reading} {count : ℕ} → TextOnR Verdict text r count → weight r ≤ 2 → program ≡ programOf r
-  only {r = r} t few =
-      let x = records-are t few (oneProgram program compiler) judge d in
-      sym (take-at program (drop (length program) buffer) (length program) refl)
-      ∙ ap (take (length program)) (x .1)
-      ∙ take-at (programOf r) (drop (length (programOf r)) buffer) (length program) (sym (x .0))
-
-  pub one-program : ⊥
+  -- one that gives one program for every text: it would be that of `-loops` and that of `-bogon-asn`
+  pub one-program : {program : List ℕ} → OneProgram program compiler → DemandThree compiler judge → ⊥
   unfolding encodeAll laid fieldsOf bytesOf records headOf itemsOf
-  one-program =
+  one-program {program} wrong d =
       let e : _≡_ {A = ℕ} 6 7 = ap (λ (l : List ℕ). getD l 0 0) (sym (only loops few-loops) ∙ only bogon few-bogon) in
       omega arith
+    where
+      only : {Verdict : Message → Reading → Type 0} {text : List ℕ} {r : Reading} {count : ℕ} → TextOnR Verdict text r count → weight r ≤ 2 → program ≡ programOf r
+      only t few = sym (wrong _ _ (number-is t few compiler judge d)) ∙ reported-are t few compiler judge d
 
 -- ---- judges
 
-module _ (judge : Judge) (runner : Runner) where
+-- beside a compiler that compiles as demand 3 has it
+module _ (compiler : Compiler) (other judge : Judge) (runner : Runner) (c : DemandThree compiler other) where
   -- one that always keeps: `-loops` drops R
-  pub always-keeps : DemandTwo ourCompiler (alwaysKeeps judge) runner → ⊥
-  always-keeps d = let e : _≡_ {A = ℕ} 1 0 = on-R loops few-loops (alwaysKeeps judge) runner d [] .drops .1 (loops .verdict) in omega arith
+  pub always-keeps : AlwaysKeeps judge → DemandTwo compiler judge runner → ⊥
+  always-keeps wrong d = wrong _ _ _ _ (on-R loops few-loops compiler judge other runner c d [] .drops .1 (loops .verdict))
 
   -- one that writes nothing: `! -loops` keeps R, whose line begins with `+`
-  pub writes-nothing : DemandTwo ourCompiler (writesNothing judge) runner → ⊥
+  pub writes-nothing : WritesNothing judge → DemandTwo compiler judge runner → ⊥
   unfolding linesOf lineOf messageR
-  writes-nothing d =
-      let x = on-R not-loops few-not (writesNothing judge) runner d room in
-      let e : _≡_ {A = ℕ} 0 43 = sym (first-blank (length (linesOf messageR))) ∙ ap (λ (l : List ℕ). getD l 0 0) (x .printed room-enough (not-loops .verdict) .1) in
+  writes-nothing wrong d =
+      let x = on-R not-loops few-not compiler judge other runner c d room in
+      let e : _≡_ {A = ℕ} 0 43 =
+      sym (first-blank (length (linesOf messageR)))
+      ∙ ap (λ (l : List ℕ). getD l 0 0) (sym (wrong _ _ _ _) ∙ x .printed room-enough (not-loops .verdict) .1) in
       omega arith
 
--- one that makes its steps up: `-loops` takes one on R, `! -loops` two
-module _ (count : ℕ) (judge : Judge) (d : DemandThree ourCompiler (stepsMadeUp count judge)) where
-  -- what is claimed of judging R with a sample's program
-  so : {Verdict : Message → Reading → Type 0} {text : List ℕ} {r : Reading} {n : ℕ} → TextOnR Verdict text r n → weight r ≤ 2
-      → JudgedSo r messageR room none (ourCompiler text buffer) (stepsMadeUp count judge (reported (ourCompiler text buffer)) recordR room none)
-  so {text = text} t few =
-      let e : ourCompiler text buffer .number ≡ 0 = number-is t few ourCompiler (stepsMadeUp count judge) d in
-      rw (eq-eqb _ _ e) at (d text buffer recordR room none .judged e (derived (t .derives)) record-represents)
-
-  pub steps-made-up : ⊥
-  steps-made-up =
-      let one : count ≡ 1 = so loops few-loops .judging-drops uncounted (loops .verdict) .1 ∙ loops .counted in
-      let two : count ≡ 2 = so not-loops few-not .judging-keeps uncounted room-enough (not-loops .verdict) .1 ∙ not-loops .counted in
+module _ (compiler : Compiler) (judge : Judge) where
+  -- one that makes its steps up: `-loops` takes one on R, `! -loops` two
+  pub steps-made-up : {count : ℕ} → StepsMadeUp count judge → DemandThree compiler judge → ⊥
+  steps-made-up {count} wrong d =
+      let one : count ≡ 1 = sym (wrong _ _ _ _) ∙ steps-on-R loops few-loops compiler judge d .judging-drops uncounted (loops .verdict) .1 ∙ loops .counted in
+      let two : count ≡ 2 = sym (wrong _ _ _ _) ∙ steps-on-R not-loops few-not compiler judge d .judging-keeps uncounted room-enough (not-loops .verdict) .1 ∙ not-loops .counted in
       omega arith
 
--- ---- a walk
+  -- one that counts nothing: `-loops` drops R, which is one seen
+  pub counts-nothing : CountsNothing judge → DemandOne compiler judge → ⊥
+  counts-nothing wrong d =
+      let x = d .records (programOf (test hasLoop)) recordR [] (some none-seen) (program-octets (test hasLoop)) (represents-octets record-represents) in
+      let e : x .answer ≡ dropped (steps (isTrue messageR) (test hasLoop)) =
+      sym (only-judged (program-octets (test hasLoop)) (represents-octets record-represents) (x .given)) ∙ loops-drop in
+      let same : some (oneDropped none-seen) ≡ some none-seen = sym (rw e at (ap tally-of (x .is))) ∙ wrong _ _ _ _ in
+      let z : _≡_ {A = ℕ} 1 0 = ap seen-of same in
+      omega arith
+
+-- ---- walks
 
 -- a record that is a header alone
 abbrev header : List ℕ
@@ -147,8 +221,22 @@ is-record : IsRecord header header
 unfolding numberAt
 is-record = record { same = refl; headed = omega arith; sized = refl }
 
--- that reads all at its first step: of two records it hands out both as one
-pub reads-all : Walks readsAll → ⊥
-reads-all w =
-    let e : _≡_ {A = ℕ} 24 12 = ap length (w .in-order (splits-append (splits-append (splits-rest nothing) is-record) is-record) 0 (omega arith)) in
+two-records : Splits (header ++ (header ++ [])) (header ∷ header ∷ []) []
+two-records = splits-append (splits-append (splits-rest nothing) is-record) is-record
+
+-- one that reads all at its first step: of two records it hands out both as one
+pub reads-all : (walker : Walker) → ReadsAll walker → Walks walker → ⊥
+unfolding placeBy placeIn
+reads-all walker wrong w =
+    let e : _≡_ {A = ℕ} 24 12 = ap (λ (s : Step). placeAfter s 0) (sym (wrong _ 0) ∙ w .in-order two-records 0 (omega arith)) in
+    omega arith
+
+-- one that never moves: its second step would be its first
+pub never-moves : (walker : Walker) → NeverMoves walker → Walks walker → ⊥
+unfolding placeBy placeIn
+never-moves walker wrong w =
+    let held : placeBy walker (header ++ (header ++ [])) 1 ≡ 0 = wrong _ 0 in
+    let same : stepBy walker (header ++ (header ++ [])) 1 ≡ stepBy walker (header ++ (header ++ [])) 0 = ap (λ (p : ℕ). walker (header ++ (header ++ [])) p .0) held in
+    let e : _≡_ {A = ℕ} 24 12 =
+    ap (λ (s : Step). placeAfter s 0) (sym (w .in-order two-records 1 (omega arith)) ∙ same ∙ w .in-order two-records 0 (omega arith)) in
     omega arith

@@ -5,9 +5,7 @@ use mathlib.Core.List.{List}
 use mathlib.Core.Option.{Option, some, none}
 use Rattle.filter.specs.Answering.{numberOf}
 use Rattle.judge.specs.declared.Tally.{Tally}
-use Rattle.judge.specs.Judging.{valueOf}
-use Rattle.judge.specs.Functions.{Judging, ourJudge}
-use Rattle.judge.specs.declared.Judged as declared
+use Rattle.judge.specs.Functions.{Judging, judgingOf, ourJudge}
 use Rattle.claims.specs.declared.Counting.{Counting}
 use Rattle.claims.specs.declared.Counting.the-variants.{Without, With}
 use Rattle.claims.specs.declared.Answer.{Answer}
@@ -20,19 +18,15 @@ abbrev pub countingOf : Counting → Option Tally
 countingOf Without = none
 countingOf (With t) = some t
 
--- what judging answered, with the line buffer and the tally afterwards
-abbrev pub judgement : declared.Judged → List ℕ → Option Tally → Judging
-judgement j lines counting = record { number = valueOf j .0; steps = valueOf j .1; written = valueOf j .2; lines = lines; tally = counting }
-
 -- with the program buffer afterwards
 unfoldable pub compilingOf : Answer → List ℕ → Compiling
 compilingOf (Judged bytes j) buffer = record { number = 0; value = bytes; buffer = buffer }
 compilingOf (Refused why place) buffer = record { number = numberOf why; value = place; buffer = buffer }
 
 -- with the line buffer and the tally afterwards
-unfoldable pub judgingOf : Answer → List ℕ → Option Tally → Judging
-judgingOf (Judged bytes j) lines counting = judgement j lines counting
-judgingOf (Refused why place) lines counting = unjudged lines counting
+unfoldable pub judgedOf : Answer → List ℕ → Option Tally → Judging
+judgedOf (Judged bytes j) lines counting = judgingOf j lines counting
+judgedOf (Refused why place) lines counting = unjudged lines counting
 
 -- where compiling refuses: program buffer, line buffer and tally are as they were
 pub record LeftAlone (buffer lines : List ℕ) (counting : Option Tally) (c : Compiling) (j : Judging) : Type 0 where
@@ -44,7 +38,7 @@ pub record LeftAlone (buffer lines : List ℕ) (counting : Option Tally) (c : Co
 pub record Claimed (text buffer bytes lines : List ℕ) (counting : Option Tally) (a : Answer) (program new : List ℕ) (after : Option Tally) : Type 0 where
   -- the answer is that of compiling, and of judging with the bytes that it reported
   pub compiled : compilingOf a program ≡ ourCompiler text buffer
-  pub judged : judgingOf a new after ≡ judgedWith ourJudge (ourCompiler text buffer) bytes lines counting
+  pub judged : judgedOf a new after ≡ judgedWith ourJudge (ourCompiler text buffer) bytes lines counting
   -- demand 3 at these arguments
-  pub demand : DemandThreeAt text buffer bytes lines counting (compilingOf a program) (judgingOf a new after)
-  pub refused : (compilingOf a program .number ≡ 0 → ⊥) → LeftAlone buffer lines counting (compilingOf a program) (judgingOf a new after)
+  pub demand : DemandThreeAt text buffer bytes lines counting (compilingOf a program) (judgedOf a new after)
+  pub refused : (compilingOf a program .number ≡ 0 → ⊥) → LeftAlone buffer lines counting (compilingOf a program) (judgedOf a new after)

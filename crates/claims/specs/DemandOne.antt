@@ -8,11 +8,13 @@ use mathlib.Core.Option.{Option}
 use lib.ListN.{length}
 use Rattle.octets.specs.Numbers.{Octets}
 use Rattle.filter.specs.Answers as texts
+use Rattle.line.specs.Answer.{lineRoom, shortNumber}
 use Rattle.judge.specs.declared.Tally.{Tally}
 use Rattle.judge.specs.Answers as records
-use Rattle.judge.specs.Functions.{Judging, Judge}
+use Rattle.judge.specs.Functions.{Judging, Judge, judgement}
 use Rattle.run.specs.Damage.{OneMore}
 use Rattle.claims.specs.Functions.{Compiling, Compiler}
+use Rattle.claims.specs.Ours.{compiling}
 
 -- of a text and a program buffer, and what compiling answers
 pub record OfText (text buffer : List ℕ) (c : Compiling) : Type 0 where
@@ -22,6 +24,10 @@ pub record OfText (text buffer : List ℕ) (c : Compiling) : Type 0 where
   pub refuses : (n place : ℕ) → 1 ≤ n → ((c .number ≡ n) × (c .value ≡ place)) ↔ texts.Answers text (length buffer) (texts.refused n place)
   -- ".. and a refusal writes nothing"
   pub leaves : 1 ≤ c .number → c .buffer ≡ buffer
+  -- the whole of it is an answer that the words give
+  pub answer : texts.Outcome
+  pub given : texts.Answers text (length buffer) answer
+  pub is : c ≡ compiling answer buffer
 
 -- the numbers of judging: 0 dropped, 1 kept, 11 to 21 a refusal
 pub data JudgingNumber (n : ℕ) : Type 0 where
@@ -40,6 +46,13 @@ pub record OfRecord (program bytes lines : List ℕ) (counting : Option Tally) (
   pub leaves : 11 ≤ j .number → (j .lines ≡ lines) × (j .written ≡ 0)
   pub counts : 11 ≤ j .number → j .number ≤ 18 → OneMore (j .tally) counting
   pub uncounted : 19 ≤ j .number → j .tally ≡ counting
+  -- "A line buffer of 65,536 bytes never gives 19"
+  pub roomy : lineRoom ≤ length lines → j .number ≡ shortNumber → ⊥
+  -- the whole of it is an answer that the words give: "The last flag is the verdict", of any valid program; "Judging with a tally adds one to seen and one to
+  -- kept, dropped or, for 11 to 18, refused"
+  pub answer : records.Outcome
+  pub given : records.Answers program bytes (length lines) counting answer
+  pub is : j ≡ judgement answer lines counting
 
 -- "Hand it any text, any program bytes, any record, any buffer size"
 pub record DemandOne (compiler : Compiler) (judge : Judge) : Type 1 where

@@ -11,7 +11,7 @@ use Rattle.aspath.specs.Wire.{bytes}
 use Rattle.message.specs.Message.{Message}
 use Rattle.message.specs.Represents.{Represents}
 use Rattle.message.specs.declared.Refusal.{Refusal}
-use Rattle.message.specs.Refusals.{RefusedWith, number}
+use Rattle.message.specs.Refusals.{RefusedWith, Readable, number}
 use Rattle.line.specs.Line.{linesOf}
 use Rattle.program.specs.Readings.{Reading}
 use Rattle.program.specs.Validity.{Valid}
@@ -47,6 +47,8 @@ pub record Whole (w : Width) (n : ℕ) : Type 0 where
   pub only : {m : Message} → Represents m record-bytes → m ≡ message
 
 pub record DemandTwo (compiler : Compiler) (judge : Judge) (runner : Runner) : Type 1 where
+  -- the records that are read are those of messages
+  pub readable : {record-bytes : List ℕ} → Octets record-bytes → Readable record-bytes ↔ ((m : Message) × Represents m record-bytes)
   -- "For every record that RFC 6396 and RFC 4271 allow, of the kinds and sizes we read"
   pub on-message : {text buffer : List ℕ} {r : Reading} → compiler text buffer .number ≡ 0 → Derived text r
       → {m : Message} {record-bytes : List ℕ} → Represents m record-bytes → (lines : List ℕ) (counting : Option Tally) → (FullTally counting → ⊥)

@@ -6,7 +6,6 @@ use lib.ListN.{take}
 use lib.Dec.{eqb}
 use Rattle.octets.specs.Choice.{pick}
 use Rattle.walk.specs.declared.Step.{Step}
-use Rattle.walk.specs.Steps.{placeAfter}
 use Rattle.judge.specs.declared.Tally.{Tally}
 use Rattle.judge.specs.Functions.{Judging, Judge}
 
@@ -32,11 +31,14 @@ unjudged lines counting = record { number = 0; steps = 0; written = 0; lines = l
 abbrev pub judgedWith : Judge → Compiling → List ℕ → List ℕ → Option Tally → Judging
 judgedWith judge c bytes lines counting = pick (eqb (c .number) 0) (judge (reported c) bytes lines counting) (unjudged lines counting)
 
--- of bytes and a place
+-- of bytes and the place that is held: the answer, and the place held afterwards
 abbrev pub Walker : Type 0
-Walker = List ℕ → ℕ → Step
+Walker = List ℕ → ℕ → Step × ℕ
 
--- the place of a walker's k-th step, counted from 0
+-- the place held before the k-th step, counted from 0, and what that step answers
 unfoldable pub placeBy : Walker → List ℕ → ℕ → ℕ
 placeBy walker bytes zero = 0
-placeBy walker bytes (suc k) = placeAfter (walker bytes (placeBy walker bytes k)) (placeBy walker bytes k)
+placeBy walker bytes (suc k) = walker bytes (placeBy walker bytes k) .1
+
+abbrev pub stepBy : Walker → List ℕ → ℕ → Step
+stepBy walker bytes k = walker bytes (placeBy walker bytes k) .0

@@ -4,14 +4,15 @@ use Prim.Native.Nat.{ℕ, _≤_, _<_}
 use mathlib.Core.Path.{_≡_}
 use mathlib.Core.List.{List, []}
 use lib.ListN.{length, getD}
-use Rattle.walk.specs.Split.{Splits}
-use Rattle.walk.specs.Steps.{recordOf, closingOf}
-use Rattle.claims.specs.Functions.{Walker, placeBy}
+use Rattle.walk.specs.declared.Step.the-variants.{Record}
+use Rattle.walk.specs.Split.{Splits, placeIn}
+use Rattle.walk.specs.Steps.{closingOf}
+use Rattle.claims.specs.Functions.{Walker, stepBy}
 
 pub record Walks (walker : Walker) : Type 0 where
-  -- the k-th step hands out the k-th record
+  -- the k-th step hands out the k-th record: its place and its length
   pub in-order : {bytes rest : List ℕ} {records : List (List ℕ)} → Splits bytes records rest → (k : ℕ) → k < length records
-      → recordOf bytes (walker bytes (placeBy walker bytes k)) ≡ getD records k []
+      → stepBy walker bytes k ≡ Record (placeIn records k) (length (getD records k []))
   -- and every step after the last record gives the closing answer
   pub closing : {bytes rest : List ℕ} {records : List (List ℕ)} → Splits bytes records rest → (k : ℕ) → length records ≤ k
-      → walker bytes (placeBy walker bytes k) ≡ closingOf rest
+      → stepBy walker bytes k ≡ closingOf rest

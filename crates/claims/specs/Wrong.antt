@@ -1,41 +1,42 @@
--- The wrong programs that document 01 wants shut out. Each is made of any compiler or judge at all, so that nothing of ours saves it.
+-- The wrong programs that document 01 wants shut out, each as what makes a compiler, a judge or a walker such a one, whatever it does otherwise.
 use Prim.Native.Nat.{ℕ}
-use mathlib.Core.List.{List, _++_}
-use lib.ListN.{length, drop}
+use mathlib.Core.Path.{_≡_}
+use mathlib.Core.List.{List}
+use mathlib.Core.Option.{Option}
+use lib.ListN.{length}
 use Rattle.walk.specs.declared.Step.the-variants.{Record}
+use Rattle.judge.specs.declared.Tally.{Tally}
 use Rattle.judge.specs.Functions.{Judge}
-use Rattle.claims.specs.Functions.{Compiler, Walker}
+use Rattle.claims.specs.Functions.{Compiler, reported, Walker}
 
 -- a compiler that refuses all
-abbrev pub refusesAll : Compiler
-refusesAll text buffer = record { number = 4; value = 0; buffer = buffer }
+abbrev pub RefusesAll : Compiler → Type 0
+RefusesAll compiler = (text buffer : List ℕ) → compiler text buffer .number ≡ 0 → ⊥
 
 -- one that gives one program for every text that it compiles
-abbrev pub oneProgram : List ℕ → Compiler → Compiler
-oneProgram program compiler text buffer = record {
-  number = compiler text buffer .number;
-  value = length program;
-  buffer = program ++ drop (length program) buffer;
-}
+abbrev pub OneProgram : List ℕ → Compiler → Type 0
+OneProgram program compiler = (text buffer : List ℕ) → compiler text buffer .number ≡ 0 → reported (compiler text buffer) ≡ program
 
--- a judge that always keeps
-abbrev pub alwaysKeeps : Judge → Judge
-alwaysKeeps judge program bytes lines counting =
-    let j = judge program bytes lines counting in
-    record { number = 1; steps = j .steps; written = j .written; lines = j .lines; tally = j .tally }
+-- a judge that always keeps: it drops no record, whichever it may refuse
+abbrev pub AlwaysKeeps : Judge → Type 0
+AlwaysKeeps judge = (program bytes lines : List ℕ) (counting : Option Tally) → judge program bytes lines counting .number ≡ 0 → ⊥
 
 -- one whose writer writes nothing
-abbrev pub writesNothing : Judge → Judge
-writesNothing judge program bytes lines counting =
-    let j = judge program bytes lines counting in
-    record { number = j .number; steps = j .steps; written = j .written; lines = lines; tally = j .tally }
+abbrev pub WritesNothing : Judge → Type 0
+WritesNothing judge = (program bytes lines : List ℕ) (counting : Option Tally) → judge program bytes lines counting .lines ≡ lines
 
 -- one whose step count is made up: the same for all
-abbrev pub stepsMadeUp : ℕ → Judge → Judge
-stepsMadeUp count judge program bytes lines counting =
-    let j = judge program bytes lines counting in
-    record { number = j .number; steps = count; written = j .written; lines = j .lines; tally = j .tally }
+abbrev pub StepsMadeUp : ℕ → Judge → Type 0
+StepsMadeUp count judge = (program bytes lines : List ℕ) (counting : Option Tally) → judge program bytes lines counting .steps ≡ count
+
+-- one that counts nothing
+abbrev pub CountsNothing : Judge → Type 0
+CountsNothing judge = (program bytes lines : List ℕ) (counting : Option Tally) → judge program bytes lines counting .tally ≡ counting
 
 -- a walk that reads all at its first step, and then repeats itself
-abbrev pub readsAll : Walker
-readsAll bytes at = Record 0 (length bytes)
+abbrev pub ReadsAll : Walker → Type 0
+ReadsAll walker = (bytes : List ℕ) (at : ℕ) → walker bytes at .0 ≡ Record 0 (length bytes)
+
+-- one that never moves from its place
+abbrev pub NeverMoves : Walker → Type 0
+NeverMoves walker = (bytes : List ℕ) (at : ℕ) → walker bytes at .1 ≡ at

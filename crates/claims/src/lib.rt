@@ -1,8 +1,8 @@
 // The demands as claims, and functions that meet the third at their arguments.
 ghost use mathlib.Core.Path.{_≡_};
 ghost use mathlib.Core.Option.{some};
-ghost use Rattle.judge.specs.Functions.{ourJudge};
-ghost use Rattle.claims.specs.Answered.{countingOf, judgement, Claimed};
+ghost use Rattle.judge.specs.Functions.{judgingOf, ourJudge};
+ghost use Rattle.claims.specs.Answered.{countingOf, Claimed};
 use filter::Compiled;
 use filter::Refusal;
 use judge::Judged;
@@ -42,7 +42,7 @@ struct Counted {
 
 // Judges with a tally or none.
 fn judge_in(program: &[u8], bytes: &[u8], lines: &mut [u8], counting: Counting) -> Counted
-    ensures { λ r. ⌜ judgement (r .judged) (now (lines .exit)) (countingOf (r .counting)) ≡ ourJudge (now (program .entry)) (now (bytes .entry)) (now (lines .entry)) (countingOf counting) ⌝ }
+    ensures { λ r. ⌜ judgingOf (r .judged) (now (lines .exit)) (countingOf (r .counting)) ≡ ourJudge (now (program .entry)) (now (bytes .entry)) (now (lines .entry)) (countingOf counting) ⌝ }
 {
     match counting {
         Counting::Without => {

@@ -1,4 +1,4 @@
--- What each answer does to a tally. Assumes nothing.
+-- The numbers of the answers, and what each does to a tally. Assumes nothing.
 use Prim.Native.Nat.{ℕ, _+_, _≤_}
 use native.Mathlib.Omega.{arith}
 use mathlib.Core.Path.{_≡_, refl}
@@ -7,33 +7,11 @@ use mathlib.Core.List.{List}
 use Rattle.message.specs.declared.Refusal.{Refusal}
 use Rattle.message.specs.declared.Refusal.the-variants.{Size, Kind, Peer, Frame, Sections, Attributes, Body, Prefix}
 use Rattle.message.specs.Refusals.{number}
+use Rattle.line.specs.Answer.{lineRoom, shortNumber}
+use Rattle.line.proofs.Room.{room-suffices}
 use Rattle.judge.specs.declared.Tally.{Tally}
 use Rattle.judge.specs.Tallies.{fullCount, Full, seen as full-seen, kept as full-kept, dropped as full-dropped, refused as full-refused, full as full-tally}
 use Rattle.judge.specs.Answers.{Outcome, kept, dropped, refused, declined, Answers, not-valid, full, unread, drops, short, keeps, tallyAfter}
-use Rattle.judge.specs.Judging.{saidOf}
-
--- ---- the counts
-
--- by how much each count of a tally grew
-pub record Grown (before after : Tally) (seen kept dropped refused : ℕ) : Type 0 where
-  pub seen-grew : after .seen ≡ before .seen + seen
-  pub kept-grew : after .kept ≡ before .kept + kept
-  pub dropped-grew : after .dropped ≡ before .dropped + dropped
-  pub refused-grew : after .refused ≡ before .refused + refused
-
--- a record that is kept, dropped or refused adds one to seen and one to that count alone; 19, 20 and 21 add nothing
-abbrev pub Adds : Outcome → Tally → Tally → Type 0
-Adds (kept steps lines) t u = Grown t u 1 1 0 0
-Adds (dropped steps) t u = Grown t u 1 0 1 0
-Adds (refused n) t u = Grown t u 1 0 0 1
-Adds (declined n) t u = Grown t u 0 0 0 0
-
--- the tally after an answer is the one before it with that added
-pub tally-adds : (o : Outcome) (t : Tally) → Adds o t (tallyAfter o t)
-tally-adds (kept steps lines) t = omega arith
-tally-adds (dropped steps) t = omega arith
-tally-adds (refused n) t = omega arith
-tally-adds (declined n) t = omega arith
 
 -- ---- the numbers
 
@@ -59,14 +37,17 @@ module _ {program bytes : List ℕ} {room : ℕ} {counting : Option Tally} where
   declined-number (full v f) = omega arith
   declined-number (short v n r e h) = omega arith
 
-  -- 19, 20 and 21 leave the tally
-  pub declined-leaves : {o : Outcome} → Answers program bytes room counting o → 19 ≤ saidOf o .0 → (t : Tally) → tallyAfter o t ≡ t
-  declined-leaves (not-valid n) h t = refl
-  declined-leaves (full v f) h t = refl
-  declined-leaves (unread {r} v n x) h t = absurd (omega (arith, refusal-number r))
-  declined-leaves (drops v n r e) h t = absurd (omega arith)
-  declined-leaves (short v n r e l) h t = refl
-  declined-leaves (keeps v n r e l) h t = absurd (omega arith)
+  -- 65,536 bytes of room never give 19
+  pub roomy : lineRoom ≤ room → Answers program bytes room counting (declined shortNumber) → ⊥
+  roomy h a = by-case a refl
+    where
+      by-case : {o : Outcome} → Answers program bytes room counting o → o ≡ declined shortNumber → ⊥
+      by-case (short v n r e l) x = omega (arith, room-suffices r)
+      by-case (not-valid n) x = let z : _≡_ {A = ℕ} 20 19 = cc x in omega arith
+      by-case (full v f) x = let z : _≡_ {A = ℕ} 21 19 = cc x in omega arith
+      by-case (unread v n y) x = let z : _≡_ {A = ℕ} 0 1 = cc x in omega arith
+      by-case (drops v n r e) x = let z : _≡_ {A = ℕ} 0 1 = cc x in omega arith
+      by-case (keeps v n r e l) x = let z : _≡_ {A = ℕ} 0 1 = cc x in omega arith
 
 -- ---- no count overflows
 

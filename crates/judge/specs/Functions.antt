@@ -3,9 +3,10 @@ use Prim.Native.Nat.{ℕ}
 use mathlib.Core.List.{List}
 use mathlib.Core.Option.{Option, some, none}
 use lib.ListN.{length}
+use Rattle.judge.specs.declared.Judged.{Judged}
 use Rattle.judge.specs.declared.Tally.{Tally}
 use Rattle.judge.specs.Answers.{Outcome, linesAfter, tallyAfter}
-use Rattle.judge.specs.Judging.{judgeOf, saidOf}
+use Rattle.judge.specs.Judging.{judgeOf, saidOf, valueOf}
 
 -- what judging answers, and the line buffer and the tally afterwards: 1 kept or 0 dropped with the steps and the bytes of the lines, or a refusal's number
 pub record Judging : Type 0 where
@@ -19,7 +20,11 @@ pub record Judging : Type 0 where
 abbrev pub Judge : Type 0
 Judge = List ℕ → List ℕ → List ℕ → Option Tally → Judging
 
--- ---- ours, as its promises settle it
+-- what the code's answer says, with the line buffer and the tally afterwards
+abbrev pub judgingOf : Judged → List ℕ → Option Tally → Judging
+judgingOf j lines counting = record { number = valueOf j .0; steps = valueOf j .1; written = valueOf j .2; lines = lines; tally = counting }
+
+-- what an answer in words says, with what it does to them
 
 abbrev pub counted : Outcome → Option Tally → Option Tally
 counted o none = none
@@ -33,6 +38,8 @@ judgement o lines counting = record {
   lines = linesAfter o lines;
   tally = counted o counting;
 }
+
+-- ---- ours, as its promises settle it
 
 abbrev pub ourJudge : Judge
 ourJudge program bytes lines counting = judgement (judgeOf program bytes (length lines) counting) lines counting

@@ -12,11 +12,13 @@ use Rattle.octets.proofs.Numbers.{number-lt}
 use Rattle.aspath.specs.declared.Width.{Width}
 use Rattle.message.specs.declared.Parts.{Parts}
 use Rattle.message.specs.declared.Decoded.the-variants.{Read}
-use Rattle.message.specs.Message.{update}
-use Rattle.message.specs.Represents.{messageLimit}
+use Rattle.message.specs.Message.{Message, update}
+use Rattle.message.specs.Represents.{Represents, messageLimit}
 use Rattle.message.specs.Fields.{widthOf, frameStart, peerAddressField, frame, kindField, bodyStart, body}
-use Rattle.message.specs.Decode.{messageAt, otherParts, updateParts, decodeOf}
-use Rattle.message.proofs.Decoding.{partsAt, PassesAt, read-passes}
+use Rattle.message.specs.Decode.{otherParts, updateParts, decodeOf}
+use Rattle.message.proofs.Decoding.{partsAt, partsOf, PassesAt, read-passes}
+use Rattle.message.proofs.RecordOctets.{represents-octets}
+use Rattle.message.proofs.RecordReads.{represents-read}
 use Rattle.line.specs.Line.{linesOf}
 use Rattle.line.specs.Answer.{lineRoom, isAmple}
 use Rattle.line.proofs.Bound.{lines-fit}
@@ -59,6 +61,9 @@ ample-readable {s} {p} o e room h =
     let announced : p .announced .len ≤ messageLimit = omega arith in
     simp (le-ltb _ _ h, le-ltb _ _ withdrawn, le-ltb _ _ attributes, le-ltb _ _ announced, le-leb _ _ f)
 
--- 65,536 bytes suffice for the lines of every record that is read
-pub room-suffices : {s : List ℕ} {p : Parts} → Octets s → decodeOf s ≡ Read p → length (linesOf (messageAt s p)) ≤ lineRoom
-room-suffices {s} {p} o e = lines-fit o p (read-short o e .address) lineRoom (ample-readable o e lineRoom (omega arith))
+-- 65,536 bytes suffice for the lines of every message that has a record
+pub room-suffices : {m : Message} {s : List ℕ} → Represents m s → length (linesOf m) ≤ lineRoom
+room-suffices {m} {s} r =
+    let o = represents-octets r in
+    let e = represents-read r in
+    rw (← e .1) (lines-fit o (partsOf s) (read-short o (e .0) .address) lineRoom (ample-readable o (e .0) lineRoom (omega arith)))

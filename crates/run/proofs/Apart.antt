@@ -81,6 +81,10 @@ module _ (program before damaged after : List ℕ) where
         → Alike (wholeStep a) (cleanStep b)
     steps-alike m n = go (stepAt after (w .gone)) whole-behind clean-behind
       where
+        -- done and cut leave both where they are
+        still : Apart (record { at = a .at; lines = b .lines; counting = a .counting }) b
+        still = record { gone = w .gone; further-on = w .further-on; placed = w .placed; same-lines = refl; one-more = w .one-more }
+
         go : (t : Step)
             → wholeStep a ≡ onward (length before + length damaged) (steppedBy ourJudge program after (a .lines) (a .counting) t)
             → cleanStep b ≡ onward (length before) (steppedBy ourJudge program after (b .lines) (b .counting) t)
@@ -92,23 +96,33 @@ module _ (program before damaged after : List ℕ) where
             let further : length before + length damaged + (start + len) ≡ length before + (start + len) + length damaged = omega arith in
             rw (e, f)
             (both-judged x further, record { gone = start + len; further-on = refl; placed = refl; same-lines = x .same-lines; one-more = x .one-more })
-        go Done e f = rw (e, f) (both-done, w)
-        go (Cut left) e f = rw (e, f) (both-cut, w)
+        go Done e f = rw (e, f, w .same-lines) (both-done, still)
+        go (Cut left) e f = rw (e, f, w .same-lines) (both-cut, still)
 
-  module _ {s : State} (m : NoneFull (runnerOf ourJudge) program (before ++ (damaged ++ after)) s) (n : NoneFull (runnerOf ourJudge) program (before ++ after) s) where
+  module _ (s : State) where
+    -- no tally is full in either run, up to the step of the clean one
+    abbrev Free : ℕ → Type 0
+    Free k = NoneFull (runnerOf ourJudge) program (before ++ (damaged ++ after)) s (suc k) × NoneFull (runnerOf ourJudge) program (before ++ after) s k
+
+    -- nor up to an earlier one
+    free-before : {i k : ℕ} → i ≤ k → Free k → Free i
+    free-before h f = (record { none-full = λ j g. f .0 .none-full j (omega arith) }, record { none-full = λ j g. f .1 .none-full j (omega arith) })
+
     -- one step later
-    next-apart : (k : ℕ) → Apart (wholeState s (suc k)) (cleanState s k)
+    next-apart : (k : ℕ) → Free k → Apart (wholeState s (suc k)) (cleanState s k)
         → Same (length damaged) (wholeStep (wholeState s (suc k))) (cleanStep (cleanState s k)) × Apart (wholeState s (suc (suc k))) (cleanState s (suc k))
     unfolding stateOf
-    next-apart k w = steps-alike w (λ j next e. m .none-full (suc k) e) (λ j next e. n .none-full k e)
+    next-apart k f w = steps-alike w (λ j next e. f .0 .none-full (suc k) (omega arith) e) (λ j next e. f .1 .none-full k (omega arith) e)
 
     -- any number of steps later
-    stays-apart : (i k : ℕ) → Apart (wholeState s (suc i)) (cleanState s i) → Apart (wholeState s (suc (i + k))) (cleanState s (i + k))
-    stays-apart i zero w = rw add-zero w
-    stays-apart i (suc k) w = rw add-suc (next-apart (i + k) (stays-apart i k w) .1)
+    stays-apart : (i k : ℕ) → Free (i + k) → Apart (wholeState s (suc i)) (cleanState s i) → Apart (wholeState s (suc (i + k))) (cleanState s (i + k))
+    stays-apart i zero f w = rw add-zero w
+    stays-apart i (suc k) f w =
+        let g : Free (i + k) = free-before (omega arith) f in
+        rw add-suc (next-apart (i + k) g (stays-apart i k g w) .1)
 
-    pub later-alike : (i k : ℕ) → i ≤ k → Apart (wholeState s (suc i)) (cleanState s i)
+    pub later-alike : (i k : ℕ) → i ≤ k → Free k → Apart (wholeState s (suc i)) (cleanState s i)
         → Same (length damaged) (wholeStep (wholeState s (suc k))) (cleanStep (cleanState s k))
-    later-alike i k h w =
+    later-alike i k h f w =
         let e : i + (k - i) ≡ k = omega arith in
-        next-apart k (rw e at (stays-apart i (k - i) w)) .0
+        next-apart k f (rw e at (stays-apart i (k - i) (rw e f) w)) .0

@@ -16,8 +16,8 @@ use Rattle.run.specs.Runs.{Stepped, judged, done, cut, steppedBy, runner
 -- an answer, so many bytes further on
 abbrev pub onward : ℕ → Stepped → Stepped
 onward n (judged j next) = judged j (n + next)
-onward n done = done
-onward n (cut left) = cut left
+onward n (done lines) = done lines
+onward n (cut left lines) = cut left lines
 
 pub runs-behind : (judge : Judge) (program front s : List ℕ) (at : ℕ) (lines : List ℕ) (counting : Option Tally)
     → runnerOf judge program (front ++ s) (length front + at) lines counting ≡ onward (length front) (runnerOf judge program s at lines counting)

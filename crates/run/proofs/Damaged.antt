@@ -19,7 +19,7 @@ use Rattle.judge.specs.Functions.{Judging, ourJudge}
 use Rattle.judge.specs.Functions as judge
 use Rattle.judge.proofs.Answered.{refused-judged}
 use Rattle.run.specs.Runs.{judged, State, start, stateOf, answerOf, runnerOf}
-use Rattle.run.specs.Damage.{NoneFull, OneMore, uncounted, counted, Refuses, Unshaken, ChangesNothing}
+use Rattle.run.specs.Damage.{OneMore, uncounted, counted, Refuses, Unshaken, ChangesNothing}
 use Rattle.run.proofs.Records.{judges, stateIn, state-in, answer-in}
 use Rattle.run.proofs.Apart.{Apart, later-alike}
 
@@ -92,16 +92,15 @@ changes-nothing = record { unshaken = unshaken }
     unshaken : {program before damaged after : List ℕ} {records : List (List ℕ)} {why : Refusal} → Valid program
         → Joined IsRecord records before → IsRecord damaged damaged → Octets damaged → RefusedWith damaged why
         → (lines : List ℕ) (counting : Option Tally)
-        → NoneFull (runnerOf ourJudge) program (before ++ (damaged ++ after)) (start lines counting)
-        → NoneFull (runnerOf ourJudge) program (before ++ after) (start lines counting)
         → Unshaken (runnerOf ourJudge) program before damaged after (length records) why (start lines counting)
-    unshaken {program} {before} {damaged} {after} {records} v j is o x lines counting m n =
+    unshaken {program} {before} {damaged} {after} {records} v j is o x lines counting =
         let e = itself program before damaged after j lines counting is in
-        let r = refuses v o x _ (m .none-full (length records) e) in
         record {
           earlier = earlier program before damaged after j lines counting;
           answer = answer program before damaged after j lines counting;
           itself = e;
-          refusal = r;
-          later = λ k h. later-alike program before damaged after m n (length records) k h (apart program before damaged after j lines counting is r);
+          refusal = refuses v o x _;
+          later = λ k h m n.
+              let r = refuses v o x _ (m .none-full (length records) (omega arith) e) in
+              later-alike program before damaged after _ (length records) k h (m, n) (apart program before damaged after j lines counting is r);
         }

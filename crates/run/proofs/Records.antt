@@ -6,8 +6,8 @@ use mathlib.Core.List.{List, [], _∷_, _++_}
 use mathlib.Core.Option.{Option}
 use lib.ListN.{length, getD, take}
 use Rattle.octets.specs.Rows.{Joined}
-use Rattle.walk.specs.Split.{IsRecord}
-use Rattle.walk.proofs.Walks.{placeIn, place-next, Stands, stands-step, stands-record, joined-stands}
+use Rattle.walk.specs.Split.{IsRecord, placeIn}
+use Rattle.walk.proofs.Walks.{place-next, Stands, stands-step, stands-record, joined-stands}
 use Rattle.judge.specs.declared.Tally.{Tally}
 use Rattle.judge.specs.Functions.{Judge}
 use Rattle.run.specs.Runs.{Stepped, judged, State, start, moved, stateOf, answerOf, through, runnerOf}

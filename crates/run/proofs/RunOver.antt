@@ -6,10 +6,11 @@ use mathlib.Core.Path.{_≡_, refl, sym, ap, _∙_}
 use mathlib.Core.List.{List, [], _∷_}
 use mathlib.Core.Option.{Option}
 use lib.ListN.{length, getD, take}
-use Rattle.walk.specs.Split.{Splits}
-use Rattle.walk.specs.Steps.{placeOf, closingOf}
+use lib.Seq.{take-length}
+use Rattle.walk.specs.Split.{Splits, placeIn}
+use Rattle.walk.specs.Steps.{closingOf}
 use Rattle.walk.proofs.Steps.{step-closes}
-use Rattle.walk.proofs.Walks.{place-end, place-is}
+use Rattle.walk.proofs.Walks.{place-end}
 use Rattle.judge.specs.declared.Tally.{Tally}
 use Rattle.judge.specs.Functions.{Judge}
 use Rattle.run.specs.Runs.{judged, Runner, State, start, moved, stateOf, answerOf, through, closed, RunsOver, steppedBy, runnerOf}
@@ -23,33 +24,41 @@ stays runner program bytes s k zero h = rw add-zero refl
 stays runner program bytes s k (suc n) h = rw (add-suc, stateOf, stays runner program bytes s k n h) h
 
 -- the closing answer doesn't
-closed-stays : (s : State) (rest : List ℕ) → moved s (closed rest) ≡ s
+closed-stays : (s : State) (rest : List ℕ) → moved s (closed rest (s .lines)) ≡ s
 closed-stays s [] = refl
 closed-stays s (b ∷ rest) = refl
 
 module _ (judge : Judge) where
   -- and is that of the walk's closing step
-  closing-step : (program bytes lines : List ℕ) (counting : Option Tally) (rest : List ℕ) → steppedBy judge program bytes lines counting (closingOf rest) ≡ closed rest
+  closing-step : (program bytes lines : List ℕ) (counting : Option Tally) (rest : List ℕ) → steppedBy judge program bytes lines counting (closingOf rest) ≡ closed rest lines
   closing-step program bytes lines counting [] = refl
   closing-step program bytes lines counting (b ∷ rest) = refl
 
   module _ (program : List ℕ) {bytes rest : List ℕ} {records : List (List ℕ)} (s : Splits bytes records rest) (lines : List ℕ) (counting : Option Tally) where
     in-order : (k : ℕ) → k < length records
         → let x = through judge program (take k records) lines counting in
-        answerOf (runnerOf judge) program bytes (start lines counting) k ≡ judged (judge program (getD records k []) (x .0) (x .1)) (placeOf bytes (suc k))
-    in-order k h = rw (place-is s (suc k), s .split) (answer-in judge program (s .joined) rest lines counting k h)
+        answerOf (runnerOf judge) program bytes (start lines counting) k ≡ judged (judge program (getD records k []) (x .0) (x .1)) (placeIn records (suc k))
+    in-order k h = rw (s .split) (answer-in judge program (s .joined) rest lines counting k h)
+
+    -- what the records leave of the line buffer
+    abbrev left : List ℕ
+    left = through judge program records lines counting .0
 
     -- the first answer past the records closes the run
-    closes : answerOf (runnerOf judge) program bytes (start lines counting) (length records) ≡ closed rest
+    closes : answerOf (runnerOf judge) program bytes (start lines counting) (length records) ≡ closed rest left
     closes =
-        rw (s .split, state-in judge program (s .joined) rest lines counting (length records) (omega arith), place-end (s .joined) (length records) (omega arith), step-closes (s .front) (s .closing))
+        rw (s .split, state-in judge program (s .joined) rest lines counting (length records) (omega arith), place-end (s .joined) (length records) (omega arith), step-closes (s .front) (s .closing), take-length records)
         (closing-step program _ _ _ rest)
 
-    closing : (k : ℕ) → length records ≤ k → answerOf (runnerOf judge) program bytes (start lines counting) k ≡ closed rest
+    -- the run stays there
+    still : moved (stateOf (runnerOf judge) program bytes (start lines counting) (length records)) (closed rest left)
+        ≡ stateOf (runnerOf judge) program bytes (start lines counting) (length records)
+    still = rw (s .split, state-in judge program (s .joined) rest lines counting (length records) (omega arith), take-length records) (closed-stays _ rest)
+
+    closing : (k : ℕ) → length records ≤ k → answerOf (runnerOf judge) program bytes (start lines counting) k ≡ closed rest left
     closing k h =
         let e : length records + (k - length records) ≡ k = omega arith in
-        let still = stays (runnerOf judge) program bytes (start lines counting) (length records) (k - length records) (rw closes (closed-stays _ rest)) in
-        rw (← e, still) closes
+        rw (← e, stays (runnerOf judge) program bytes (start lines counting) (length records) (k - length records) (rw closes still)) closes
 
   -- every judge's runner runs so
   pub runs-over : RunsOver judge (runnerOf judge)

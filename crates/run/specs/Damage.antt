@@ -11,19 +11,19 @@ use Rattle.message.specs.Refusals.{RefusedWith, number}
 use Rattle.program.specs.Validity.{Valid}
 use Rattle.walk.specs.Split.{IsRecord}
 use Rattle.judge.specs.declared.Tally.{Tally}
-use Rattle.judge.specs.Tallies.{FullTally, tally}
+use Rattle.judge.specs.Tallies.{FullTally, oneRefused}
 use Rattle.judge.specs.Functions.{Judging}
 use Rattle.run.specs.Runs.{Stepped, judged, done, cut, Runner, State, start, stateOf, answerOf}
 
--- no record of a run is judged with a full tally
-pub record NoneFull (runner : Runner) (program bytes : List ℕ) (s : State) : Type 0 where
-  pub none-full : (k : ℕ) {j : Judging} {next : ℕ} → answerOf runner program bytes s k ≡ judged j next
+-- no record of a run is judged with a full tally, up to the n-th step
+pub record NoneFull (runner : Runner) (program bytes : List ℕ) (s : State) (n : ℕ) : Type 0 where
+  pub none-full : (k : ℕ) → k ≤ n → {j : Judging} {next : ℕ} → answerOf runner program bytes s k ≡ judged j next
       → FullTally (stateOf runner program bytes s k .counting) → ⊥
 
--- one more seen and one more refused, or no tally
+-- the first tally is the second with one more seen and one more refused; or there is none
 pub data OneMore : Option Tally → Option Tally → Type 0 where
   uncounted : OneMore none none
-  counted : {t : Tally} → OneMore (some (tally (t .seen + 1) (t .kept) (t .dropped) (t .refused + 1))) (some t)
+  counted : {t : Tally} → OneMore (some (oneRefused t)) (some t)
 
 -- the same number, steps, bytes written and line buffer
 pub record SameAnswer (a b : Judging) : Type 0 where
@@ -36,8 +36,8 @@ pub record SameAnswer (a b : Judging) : Type 0 where
 -- the same later answer, at places that lie so many bytes apart
 pub data Same (size : ℕ) : Stepped → Stepped → Type 0 where
   both-judged : {a b : Judging} {p q : ℕ} → SameAnswer a b → p ≡ q + size → Same size (judged a p) (judged b q)
-  both-done : Same size done done
-  both-cut : {left : ℕ} → Same size (cut left) (cut left)
+  both-done : {lines : List ℕ} → Same size (done lines) (done lines)
+  both-cut : {left : ℕ} {lines : List ℕ} → Same size (cut left lines) (cut left lines)
 
 -- the damaged record gets its refusal: no byte of the line buffer changes, and it counts as one seen and one refused
 pub record Refuses (s : State) (why : Refusal) (j : Judging) : Type 0 where
@@ -54,15 +54,16 @@ pub record Unshaken (runner : Runner) (program before damaged after : List ℕ) 
   -- its own answer
   pub answer : Judging
   pub itself : answerOf runner program (before ++ (damaged ++ after)) s records ≡ judged answer (length before + length damaged)
-  pub refusal : Refuses (stateOf runner program (before ++ (damaged ++ after)) s records) why answer
-  -- later answers are the same, one step later
-  pub later : (k : ℕ) → records ≤ k
+  -- is its refusal, if the tally isn't full
+  pub refusal : (FullTally (stateOf runner program (before ++ (damaged ++ after)) s records .counting) → ⊥)
+      → Refuses (stateOf runner program (before ++ (damaged ++ after)) s records) why answer
+  -- later answers are the same, one step later, while no tally is full in either run
+  pub later : (k : ℕ) → records ≤ k → NoneFull runner program (before ++ (damaged ++ after)) s (suc k) → NoneFull runner program (before ++ after) s k
       → Same (length damaged) (answerOf runner program (before ++ (damaged ++ after)) s (suc k)) (answerOf runner program (before ++ after) s k)
 
--- with a valid program, records before it whose lengths are right, its own length right, whatever it is otherwise refused for, and no tally full in either run
+-- with a valid program, records before it whose lengths are right, its own length right, and whatever it is otherwise refused for
 pub record ChangesNothing (runner : Runner) : Type 1 where
   pub unshaken : {program before damaged after : List ℕ} {records : List (List ℕ)} {why : Refusal} → Valid program
       → Joined IsRecord records before → IsRecord damaged damaged → Octets damaged → RefusedWith damaged why
       → (lines : List ℕ) (counting : Option Tally)
-      → NoneFull runner program (before ++ (damaged ++ after)) (start lines counting) → NoneFull runner program (before ++ after) (start lines counting)
       → Unshaken runner program before damaged after (length records) why (start lines counting)

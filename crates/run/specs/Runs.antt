@@ -3,22 +3,22 @@ use Prim.Native.Nat.{ℕ, zero, suc, _+_, _≤_, _<_}
 use mathlib.Core.Path.{_≡_}
 use mathlib.Core.List.{List, [], _∷_}
 use mathlib.Core.Option.{Option}
-use lib.ListN.{length, getD, take, drop}
+use lib.ListN.{length, getD, take}
 use Rattle.walk.specs.declared.Step.{Step}
 use Rattle.walk.specs.declared.Step.the-variants.{Record, Done, Cut}
-use Rattle.walk.specs.Split.{Splits}
-use Rattle.walk.specs.Steps.{stepAt, placeOf}
+use Rattle.walk.specs.Split.{Splits, placeIn}
+use Rattle.walk.specs.Steps.{stepAt, recordOf}
 use Rattle.judge.specs.declared.Tally.{Tally}
 use Rattle.judge.specs.Functions.{Judging, Judge}
 
--- what a step of a run answers
+-- what a step of a run answers, with the line buffer afterwards
 pub data Stepped : Type 0 where
   -- a record was judged so; the run goes on at the place behind it
   judged : Judging → ℕ → Stepped
   -- nothing is left
-  done : Stepped
+  done : List ℕ → Stepped
   -- so many bytes are left, and no whole record
-  cut : ℕ → Stepped
+  cut : ℕ → List ℕ → Stepped
 
 -- of a program, the bytes of a run, a place, a line buffer and a tally or none
 abbrev pub Runner : Type 0
@@ -36,11 +36,11 @@ pub record State : Type 0 where
 abbrev pub start : List ℕ → Option Tally → State
 start lines counting = record { at = 0; lines = lines; counting = counting }
 
--- after a step: behind a record, with what judging it left; after done or cut it stays
+-- after a step: behind a record, with what judging it left; after done or cut it stays there, with the line buffer that the step left
 abbrev pub moved : State → Stepped → State
 moved s (judged j next) = record { at = next; lines = j .lines; counting = j .tally }
-moved s done = s
-moved s (cut left) = s
+moved s (done lines) = record { at = s .at; lines = lines; counting = s .counting }
+moved s (cut left lines) = record { at = s .at; lines = lines; counting = s .counting }
 
 module _ (runner : Runner) (program bytes : List ℕ) where
   abbrev pub stepOn : State → Stepped
@@ -63,28 +63,28 @@ through judge program (r ∷ rs) lines counting =
     let j = judge program r lines counting in
     through judge program rs (j .lines) (j .tally)
 
--- the answer that closes a run: done, or cut with the bytes left
-abbrev pub closed : List ℕ → Stepped
-closed [] = done
-closed (b ∷ rest) = cut (length (b ∷ rest))
+-- the answer that closes a run: done, or cut with the bytes left; the line buffer stays as it is
+abbrev pub closed : List ℕ → List ℕ → Stepped
+closed [] lines = done lines
+closed (b ∷ rest) lines = cut (length (b ∷ rest)) lines
 
 -- the k-th step judges the k-th record with what those before it left; after the last one every step gives the closing answer
 pub record RunsOver (judge : Judge) (runner : Runner) : Type 0 where
   pub in-order : {program bytes rest : List ℕ} {records : List (List ℕ)} → Splits bytes records rest → (lines : List ℕ) (counting : Option Tally)
       → (k : ℕ) → k < length records
       → let x = through judge program (take k records) lines counting in
-      answerOf runner program bytes (start lines counting) k ≡ judged (judge program (getD records k []) (x .0) (x .1)) (placeOf bytes (suc k))
+      answerOf runner program bytes (start lines counting) k ≡ judged (judge program (getD records k []) (x .0) (x .1)) (placeIn records (suc k))
   pub closing : {program bytes rest : List ℕ} {records : List (List ℕ)} → Splits bytes records rest → (lines : List ℕ) (counting : Option Tally)
       → (k : ℕ) → length records ≤ k
-      → answerOf runner program bytes (start lines counting) k ≡ closed rest
+      → answerOf runner program bytes (start lines counting) k ≡ closed rest (through judge program records lines counting .0)
 
 -- ---- what the code computes
 
 -- the walk's step at the place, and its record judged
 abbrev pub steppedBy : Judge → List ℕ → List ℕ → List ℕ → Option Tally → Step → Stepped
-steppedBy judge program bytes lines counting (Record start len) = judged (judge program (take len (drop start bytes)) lines counting) (start + len)
-steppedBy judge program bytes lines counting Done = done
-steppedBy judge program bytes lines counting (Cut left) = cut left
+steppedBy judge program bytes lines counting (Record start len) = judged (judge program (recordOf bytes (Record start len)) lines counting) (start + len)
+steppedBy judge program bytes lines counting Done = done lines
+steppedBy judge program bytes lines counting (Cut left) = cut left lines
 
 abbrev pub runnerOf : Judge → Runner
 runnerOf judge program bytes at lines counting = steppedBy judge program bytes lines counting (stepAt bytes at)

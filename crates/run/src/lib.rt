@@ -3,7 +3,7 @@ ghost use mathlib.Core.Path.{_≡_};
 ghost use mathlib.Core.Option.{some};
 ghost use Rattle.judge.specs.Functions.{ourJudge};
 ghost use Rattle.run.specs.Runs.{runnerOf};
-ghost use Rattle.run.specs.Stepping.{stepped, linesThen};
+ghost use Rattle.run.specs.Stepping.{stepped};
 use judge::Judged;
 use judge::Tally;
 use walk::Step;
@@ -26,7 +26,6 @@ pub enum Ran {
 // The step at a place: the record that stands there is judged with the program, and counted.
 pub fn run_step(program: &[u8], bytes: &[u8], at: usize, lines: &mut [u8], tally: Tally) -> Ran
     ensures { λ r. ⌜ stepped r (now (lines .exit)) ≡ runnerOf ourJudge (now (program .entry)) (now (bytes .entry)) at (now (lines .entry)) (some tally) ⌝ }
-    ensures { λ r. ⌜ now (lines .exit) ≡ linesThen (runnerOf ourJudge (now (program .entry)) (now (bytes .entry)) at (now (lines .entry)) (some tally)) (now (lines .entry)) ⌝ }
 {
     let step = walk::step_at(bytes, at);
     match step {

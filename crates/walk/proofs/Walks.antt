@@ -8,15 +8,9 @@ use mathlib.Core.List.{List, [], _∷_, _++_, append-assoc}
 use lib.ListN.{length, getD, length-append}
 use Rattle.octets.specs.Rows.{Joined, none, more}
 use Rattle.walk.specs.declared.Step.the-variants.{Record}
-use Rattle.walk.specs.Split.{IsRecord, Splits}
+use Rattle.walk.specs.Split.{IsRecord, Splits, placeIn}
 use Rattle.walk.specs.Steps.{stepAt, recordOf, placeAfter, placeOf, stepOf, closingOf}
 use Rattle.walk.proofs.Steps.{step-stands, record-stands, step-closes, stays, closing-stopped}
-
--- the place of the k-th record, counted from 0: the lengths of those before it together
-unfoldable pub placeIn : List (List ℕ) → ℕ → ℕ
-placeIn rs zero = 0
-placeIn [] (suc k) = 0
-placeIn (r ∷ rs) (suc k) = length r + placeIn rs k
 
 -- the next place lies one record further
 pub place-next : (rs : List (List ℕ)) (k : ℕ) → placeIn rs (suc k) ≡ placeIn rs k + length (getD rs k [])

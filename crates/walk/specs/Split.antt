@@ -1,7 +1,7 @@
 -- A run of records (RFC 6396, section 2): how bytes split into records.
-use Prim.Native.Nat.{ℕ, _+_, _≤_, _<_}
+use Prim.Native.Nat.{ℕ, zero, suc, _+_, _≤_, _<_}
 use mathlib.Core.Path.{_≡_}
-use mathlib.Core.List.{List, [], _++_}
+use mathlib.Core.List.{List, [], _∷_, _++_}
 use lib.ListN.{length}
 use Rattle.octets.specs.Numbers.{numberAt}
 use Rattle.octets.specs.Rows.{Joined}
@@ -32,3 +32,9 @@ pub record Splits (bytes : List ℕ) (records : List (List ℕ)) (rest : List �
   pub split : bytes ≡ front ++ rest
   pub joined : Joined IsRecord records front
   pub closing : Rest rest
+
+-- the place of the k-th record, counted from 0: the lengths of those before it together
+unfoldable pub placeIn : List (List ℕ) → ℕ → ℕ
+placeIn rs zero = 0
+placeIn [] (suc k) = 0
+placeIn (r ∷ rs) (suc k) = length r + placeIn rs k

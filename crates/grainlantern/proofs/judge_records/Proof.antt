@@ -39,7 +39,7 @@ returns-2 c = search needs
 
 loop-less : tie.Need-loop-less Inv-loop μ-loop
 loop-less c =
-    let step = c .before .before .before .before .before .before .before .before .run-step .ensures .0 in
+    let step = c .before .before .before .before .before .before .before .before .run-step .ensures in
     rw (c .before .before .before .before .ran .given .1) at (subst (Onward _ _) (sym step) (onward _ _ _ _ _ _))
 
 loop-again : tie.Need-loop-again Inv-loop μ-loop

@@ -38,13 +38,13 @@ returns : tie.Need-returns
 returns c =
     let step = sym (c .before .before .before .before .before .before .before .before .before .step-at .ensures) ∙ c .before .before .before .before .before .before .before .step .given .1 in
     let j = c .before .before .before .judge-with .ensures in
-    rw (step, ← c .before .before .before .before .before .record-of .ensures, j .0, j .1 .0, j .1 .1) (refl, refl)
+    rw (step, ← c .before .before .before .before .before .record-of .ensures, j .0, j .1 .0, j .1 .1)
 
 returns-2 : tie.Need-returns-2
-returns-2 c = rw (sym (c .before .before .step-at .ensures) ∙ c .enum-told .given .1) (refl, refl)
+returns-2 c = rw (sym (c .before .before .step-at .ensures) ∙ c .enum-told .given .1)
 
 returns-3 : tie.Need-returns-3
-returns-3 c = rw (sym (c .before .before .before .step-at .ensures) ∙ c .before .step2 .given .1) (refl, refl)
+returns-3 c = rw (sym (c .before .before .before .step-at .ensures) ∙ c .before .step2 .given .1)
 
 pub run-step-spec : {M : Type 1} → statement M
 run-step-spec =
