@@ -16,8 +16,8 @@ use Rattle.run.specs.Runs.{Stepped, judged, done, cut, runnerOf}
 -- what a step's answer at a place leaves
 abbrev pub Onward : List ℕ → ℕ → Stepped → Type 0
 Onward bytes at (judged j next) = length bytes - next < length bytes - at
-Onward bytes at done = Unit {0}
-Onward bytes at (cut left) = Unit {0}
+Onward bytes at (done lines) = Unit {0}
+Onward bytes at (cut left lines) = Unit {0}
 
 pub onward : (judge : Judge) (program bytes : List ℕ) (at : ℕ) (lines : List ℕ) (counting : Option Tally)
     → Onward bytes at (runnerOf judge program bytes at lines counting)
