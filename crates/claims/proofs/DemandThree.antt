@@ -6,7 +6,7 @@ use mathlib.Core.Bool.{Bool, true, false}
 use mathlib.Core.List.{List, _++_}
 use mathlib.Core.Logic.{_↔_}
 use mathlib.Core.Option.{Option}
-use lib.ListN.{length, take, drop}
+use lib.ListN.{length, drop}
 use lib.Seq.{take-at}
 use borrow.Author.Tests.{le-ltb, eq-eqb}
 use Rattle.message.specs.Message.{Message}
@@ -16,12 +16,10 @@ use Rattle.program.specs.Readings.{Reading, weight, verdict, steps}
 use Rattle.program.specs.Records.{weightLimit}
 use Rattle.program.specs.Layout.{recordSize}
 use Rattle.program.specs.Compiling.{records, programOf}
-use Rattle.program.specs.Machine.{machine}
 use Rattle.program.proofs.LayoutLaws.{encodeAll-length}
 use Rattle.program.proofs.MachineLaws.{length-records, steps-least}
 use Rattle.program.proofs.ReadingValid.{PossibleReading, records-possible}
 use Rattle.truth.specs.Means.{isTrue}
-use Rattle.truth.specs.Records.{recordTruth}
 use Rattle.truth.specs.Verdict.{Keeps, Drops}
 use Rattle.truth.proofs.Addresses.{represented-addressed, reading-addressed}
 use Rattle.truth.proofs.Machines.{machine-truth}
@@ -29,8 +27,7 @@ use Rattle.truth.proofs.Verdicts.{keeps-exactly, drops-exactly}
 use Rattle.token.specs.Tokens.{Placed, Lexes}
 use Rattle.token.proofs.Lexing.{lexes-once, unclosed-none}
 use Rattle.token.proofs.AllowedBytes.{every-place}
-use Rattle.filter.specs.Grammar.{expression, Reads}
-use Rattle.filter.specs.Answers.{bare, Fine, Derives, Outcome, compiled, refused, Answers}
+use Rattle.filter.specs.Answers.{Fine, Derives, Outcome, compiled, refused, Answers}
 use Rattle.filter.specs.Answers as words
 use Rattle.filter.specs.Answering.{answer, saidOf}
 use Rattle.filter.specs.Refused.{FirstRefused}
@@ -45,7 +42,7 @@ use Rattle.judge.specs.Functions.{Judge, ourJudge}
 use Rattle.judge.proofs.Readings.{reading-judged}
 use Rattle.claims.specs.Functions.{reported, judgedWith}
 use Rattle.claims.specs.Ours.{ourCompiler}
-use Rattle.claims.specs.DemandThree.{Compiles, Derived, JudgedSo, DemandThreeAt, DemandThree}
+use Rattle.claims.specs.DemandThree.{Compiles, Derived, JudgedSo, DemandThree}
 
 -- a text has one reading
 one-reading : {text : List ℕ} {r s : Reading} → Derived text r → Derived text s → r ≡ s

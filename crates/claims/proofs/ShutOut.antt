@@ -2,7 +2,7 @@
 use Prim.Native.Nat.{ℕ, zero, suc, _*_, _≤_}
 use native.Mathlib.Omega.{arith}
 use mathlib.Core.Path.{_≡_, refl, sym, ap, _∙_}
-use mathlib.Core.List.{List, [], _∷_, _++_}
+use mathlib.Core.List.{List, [], _++_}
 use mathlib.Core.Option.{none}
 use lib.ListN.{length, getD, take, drop, replicate, length-replicate}
 use lib.Seq.{take-at}
@@ -14,7 +14,7 @@ use Rattle.line.specs.Line.{lineOf, linesOf}
 use Rattle.program.specs.Readings.{hasLoop, hasBogon, Reading, test, neg, itemCount, weight}
 use Rattle.program.specs.Layout.{recordSize, fieldsOf, laid, encodeAll}
 use Rattle.program.specs.Compiling.{headOf, itemsOf, records, programOf}
-use Rattle.walk.specs.Split.{headerSize, IsRecord, Splits, nothing}
+use Rattle.walk.specs.Split.{headerSize, IsRecord, nothing}
 use Rattle.walk.proofs.Splits.{splits-append, splits-rest}
 use Rattle.judge.specs.Tallies.{FullTally}
 use Rattle.judge.specs.Functions.{Judge, ourJudge}
@@ -23,13 +23,13 @@ use Rattle.run.specs.Runs.{Runner}
 use Rattle.pairs.specs.RecordR.{recordR, messageR}
 use Rattle.pairs.proofs.RecordR.{record-represents}
 use Rattle.pairs.proofs.Texts.{TextOnR}
-use Rattle.pairs.proofs.KnownPairs.{notLoopsText, not-loops}
-use Rattle.pairs.proofs.Samples.{loopsText, bogonText, loops, bogon}
-use Rattle.claims.specs.Functions.{Compiler, reported, judgedWith}
+use Rattle.pairs.proofs.KnownPairs.{not-loops}
+use Rattle.pairs.proofs.Samples.{loops, bogon}
+use Rattle.claims.specs.Functions.{Compiler, reported}
 use Rattle.claims.specs.Ours.{ourCompiler}
 use Rattle.claims.specs.Walk.{Walks}
 use Rattle.claims.specs.DemandTwo.{OnMessage, DemandTwo}
-use Rattle.claims.specs.DemandThree.{Compiles, Derived, JudgedSo, DemandThree}
+use Rattle.claims.specs.DemandThree.{Compiles, JudgedSo, DemandThree}
 use Rattle.claims.specs.Wrong.{refusesAll, oneProgram, alwaysKeeps, writesNothing, stepsMadeUp, readsAll}
 use Rattle.claims.proofs.DemandThree.{demand-three, derived, compiled-compiles}
 

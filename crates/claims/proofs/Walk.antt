@@ -2,7 +2,7 @@
 use Prim.Native.Nat.{ℕ, zero, suc}
 use mathlib.Core.Path.{_≡_, refl}
 use mathlib.Core.List.{List}
-use Rattle.walk.specs.Steps.{stepAt, placeAfter, placeOf}
+use Rattle.walk.specs.Steps.{stepAt, placeOf}
 use Rattle.walk.proofs.Walks.{step-record, step-closing}
 use Rattle.claims.specs.Functions.{placeBy}
 use Rattle.claims.specs.Walk.{Walks}

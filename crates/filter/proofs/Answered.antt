@@ -1,5 +1,5 @@
 -- The computed answer is one that the words give, and they give no other. Assumes nothing.
-use Prim.Native.Nat.{ℕ, _*_, _≤_, _<_}
+use Prim.Native.Nat.{ℕ, _*_, _≤_}
 use native.Mathlib.Omega.{arith}
 use native.Mathlib.Decide.{decLe}
 use native.Mathlib.Nat.{lt-of-not-le}
@@ -12,13 +12,13 @@ use Rattle.program.specs.Records.{weightLimit}
 use Rattle.program.specs.Layout.{recordSize}
 use Rattle.token.specs.Texts.{textLimit}
 use Rattle.filter.specs.Levels.{levelLimit}
-use Rattle.token.specs.Tokens.{Placed, Lexes, Unclosed}
+use Rattle.token.specs.Tokens.{Placed, Lexes}
 use Rattle.token.specs.Lexer.{Lexed, tokens, unclosed}
 use Rattle.token.specs.Lexer as lexer
 use Rattle.token.specs.Next.{allowedFront}
 use Rattle.token.proofs.AllowedBytes.{Forbidden, forbidden-once, forbidden-none, front-most, allowed-front, front-forbidden}
-use Rattle.token.proofs.Lexing.{read-tokens, read-unclosed, lexes-once, lex-complete}
-use Rattle.filter.specs.Answers.{bare, Fine, Reaches, Derives, Outcome, compiled, refused, Answers}
+use Rattle.token.proofs.Lexing.{read-tokens, read-unclosed, lexes-once}
+use Rattle.filter.specs.Answers.{bare, Fine, Derives, Outcome, refused, Answers}
 use Rattle.filter.specs.Answers as words
 use Rattle.filter.specs.Reader.{Answer, read}
 use Rattle.filter.specs.Reader as reader

@@ -2,10 +2,10 @@
 use Prim.Native.Nat.{ℕ, suc, _≤_, max}
 use native.Mathlib.Nat.{le-refl}
 use native.Mathlib.Omega.{arith}
-use mathlib.Core.Path.{_≡_, refl, ap, _∙_, sym}
+use mathlib.Core.Path.{_≡_, refl, ap, _∙_}
 use mathlib.Core.Bool.{Bool, true, false}
 use mathlib.Core.Option.{Option, none, some}
-use mathlib.Core.List.{List, [], _∷_, _++_, append-assoc, append-nil, nil≢cons, head-eq-of-cons-eq}
+use mathlib.Core.List.{List, [], _∷_, _++_, append-assoc, append-nil}
 use lib.Dec.{ltb}
 use borrow.Author.Tests.{ltb-true, ltb-false}
 use Rattle.program.specs.Readings.{Test, Reading}
@@ -230,7 +230,7 @@ only L (bad-end {ts} l none-of) = by-walk (leads-reached L ts l)
     by-walk : (s : State) × (walk L start ts ≡ came s) → answered (walk L start ts) ≡ refused bad []
     by-walk (s, e) = ap answered e ∙ by-end (finish s) (finish-at ts s (walk-at L ts s e))
 
--- ---- what is refused is the first
+-- ---- a level too many
 
 -- tokens after which a level too many is open don't lead on
 pub deep-ends : {L : ℕ} {ts : List Token} → Open ts (suc L) → Leads L ts → ⊥
@@ -251,31 +251,3 @@ deep-opener {L} {ts} {t} l o = by-walk (leads-reached L ts l)
 
     by-walk : (s : State) × (walk L start ts ≡ came s) → Opener t
     by-walk (s, e) = by-step (step L s t) (stepped L ts s t e)
-
--- the first token that is refused, or the end: each beginning before it leads on, and none with it
-pub record First (L : ℕ) (ts us : List Token) : Type 0 where
-  pub front : List Token
-  pub joined : ts ≡ front ++ us
-  pub before : (xs ys : List Token) → front ≡ xs ++ ys → Leads L xs
-  pub with-it : (t : Token) (more : List Token) → us ≡ t ∷ more → Leads L (front ++ (t ∷ [])) → ⊥
-
--- a token after what leads on, with which nothing does
-first-token : {L : ℕ} (ts : List Token) (t : Token) (us : List Token) → Leads L ts → (Leads L (ts ++ (t ∷ [])) → ⊥) → First L (ts ++ (t ∷ us)) (t ∷ us)
-first-token {L} ts t us l f = record {
-  front = ts;
-  joined = refl;
-  before = λ xs ys e. earlier xs ys (rw e at l);
-  with-it = λ x more e m. f (rw (head-eq-of-cons-eq e) m);
-}
-
--- what is refused is the first that is
-pub refused-first : {L : ℕ} {ts us : List Token} {w : Why} → Judged L ts (refused w us) → First L ts us
-refused-first (bad-token ts t us l f g) = first-token ts t us l (λ m. f (leads-alive m))
-refused-first (bad-operand ts t us l f g) = first-token ts t us l (λ m. f (leads-alive m))
-refused-first (too-deep ts t us l o) = first-token ts t us l (deep-ends o)
-refused-first (bad-end {ts} l f) = record {
-  front = ts;
-  joined = sym (append-nil ts);
-  before = λ xs ys e. earlier xs ys (rw e at l);
-  with-it = λ t more e m. absurd (nil≢cons e);
-}

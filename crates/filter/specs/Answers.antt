@@ -9,7 +9,7 @@ use Rattle.program.specs.Layout.{recordSize}
 use Rattle.token.specs.Texts.{textLimit, Allowed, Every}
 use Rattle.token.specs.Tokens.{Word, Token, bang, word, Placed, placed, Lexes, Unclosed}
 use Rattle.filter.specs.Words.{name, Says}
-use Rattle.filter.specs.Grammar.{Operand, Part, expression, Reads}
+use Rattle.filter.specs.Grammar.{Operand, expression, Reads}
 use Rattle.filter.specs.Levels.{levelLimit, levels, Open}
 use Rattle.operand.specs.declared.Name.{Name}
 

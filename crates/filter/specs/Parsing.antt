@@ -6,13 +6,13 @@ use mathlib.Core.Option.{Option, some, none}
 use mathlib.Core.List.{List, [], _∷_, _++_}
 use lib.ListN.{length, drop}
 use lib.Seq.{sets}
-use Rattle.program.specs.Readings.{hasLoop, hasBogon, Operator, and, or, Reading, weight}
+use Rattle.program.specs.Readings.{hasLoop, hasBogon, and, or, Reading, weight}
 use Rattle.program.specs.Layout.{recordSize}
 use Rattle.program.specs.Compiling.{programOf}
 use Rattle.token.specs.Texts.{textLimit}
 use Rattle.filter.specs.Levels.{levelLimit}
 use Rattle.token.specs.Tokens.{Token, open′, close, bang, word, quoted, Placed}
-use Rattle.token.specs.Next.{left, Closed, nextAt, tokenIn}
+use Rattle.token.specs.Next.{left, Closed, nextAt}
 use Rattle.token.specs.declared.Kind.{Kind}
 use Rattle.token.specs.declared.Kind.the-variants.{End, Open, Close, Bang, Word, Quoted, Unclosed}
 use Rattle.token.specs.declared.Lexeme.{Lexeme}
