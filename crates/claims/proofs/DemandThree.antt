@@ -139,7 +139,7 @@ refused-only o (words.forbidden p h i j k) f l n = absurd (k (every-place (f .al
 refused-only o (words.unclosed g u) f l n = absurd (unclosed-none u l)
 refused-only {room = room} o (words.bad-token g x a s) f l n = first-refused {room = room} (omega arith) (omega arith) (words.bad-token g x a s)
 refused-only {room = room} o (words.bad-end ts g k w h) f l n = first-refused {room = room} (omega arith) (omega arith) (words.bad-end ts g k w h)
-refused-only {room = room} o (words.bad-operand g x a s) f l n = first-refused {room = room} (omega arith) (omega arith) (words.bad-operand g x a s)
+refused-only {room = room} o (words.bad-operand g x s h) f l n = first-refused {room = room} (omega arith) (omega arith) (words.bad-operand g x s h)
 refused-only {room = room} o (words.too-deep g x w) f l n = first-refused {room = room} (omega arith) (omega arith) (words.too-deep g x w)
 refused-only o (words.too-heavy {r} g d w) f l n = absurd (n r (derived d))
 refused-only o (words.no-room {r} g d w k) f l n = absurd (n r (derived d))

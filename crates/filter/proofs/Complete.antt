@@ -12,7 +12,7 @@ use Rattle.filter.specs.Levels.{levels}
 use Rattle.filter.specs.Reader.{Hole, whole, grouping, first, oring, head, anding, negating, depth, State, want, operand, have, level, takes, came, ok, settle, outer, again, leave, end, begin, fill, join, conclude, answered, finish, start, move, walk, read}
 use Rattle.filter.proofs.Walks.{step-opens, walk-go, walk-takes, walk-join}
 use Rattle.operand.specs.declared.Name.{Name}
-use Rattle.operand.specs.Tests.{StandsFor}
+use Rattle.operand.specs.Tests.{StandsFor, meaning}
 use Rattle.operand.proofs.Meanings.{meaning-complete}
 use Rattle.filter.proofs.Roles.{said-role}
 
@@ -44,11 +44,16 @@ pub name-moves : (h : Hole factor) {w : Word} {k : Name} → Says w (name k) →
 unfolding move begin
 name-moves h {w} {k} q = ap (begin h) (said-role q)
 
+-- an operand is read by its bytes
+pub operand-fills : (h : Hole factor) (k : Name) {o : Token} {v : Word} → Operand o v → move (operand k h) o ≡ fill h (meaning k v)
+unfolding move
+operand-fills h k a-word = refl
+operand-fills h k a-quoted = refl
+
 -- a good operand
 pub operand-moves : (h : Hole factor) {o : Token} {v : Word} {k : Name} {x : Test} → Operand o v → StandsFor k v x → move (operand k h) o ≡ takes (settle (test x) h)
-unfolding move fill
-operand-moves h {v = v} {k} {x} a-word m = ap (fill h) (meaning-complete m)
-operand-moves h {v = v} {k} {x} a-quoted m = ap (fill h) (meaning-complete m)
+unfolding fill
+operand-moves h {k = k} a m = operand-fills h k a ∙ ap (fill h) (meaning-complete m)
 
 -- `-and` after factors
 pub and-moves : (r : Reading) (h : Hole conjunction) {w : Word} → Says w (joins and) → move (have r h) (word w) ≡ takes (want (anding r h))

@@ -3,7 +3,7 @@ use Prim.Native.Nat.{ℕ}
 use mathlib.Core.Path.{_≡_, refl, ap, _∙_}
 use mathlib.Core.Option.{some}
 use mathlib.Core.List.{List, [], _∷_, _++_}
-use Rattle.program.specs.Readings.{hasLoop, and, or, Reading, test, neg, joint}
+use Rattle.program.specs.Readings.{Test, hasLoop, and, or, Reading, test, neg, joint}
 use Rattle.token.specs.Tokens.{Word, Token, close, bang, word}
 use Rattle.filter.specs.Grammar.{Operand, a-word, Part, expression, conjunction, factor, Reads}
 use Rattle.filter.specs.Levels.{Open}
@@ -14,6 +14,7 @@ use Rattle.filter.proofs.Complete.{flag-moves, operand-moves, close-mov
 use Rattle.filter.proofs.Agree.{levels-within, open-level}
 use Rattle.filter.proofs.Sound.{at-not, At, finish-at, walk-moves, walk-at}
 use Rattle.operand.specs.declared.Name.{Name}
+use Rattle.operand.specs.Tests.{StandsFor}
 use Rattle.operand.proofs.Samples.{sampleText, sampleTest, sample}
 use Rattle.filter.proofs.Roles.{loopsWord, loops-said}
 
@@ -104,16 +105,19 @@ opened L ts s e =
       counted = open-level L ts (closing s) s e (ends-at ts s (ends 0 s) (walk-at L ts s e));
     }
 
--- where an operand is wanted, a word or a quoted token stands as one
-pub stands : (ts : List Token) (t : Token) (k : Name) (h : Hole factor) (v : Word) → At ts (operand k h) → Operand t v → Stands ts t
-stands ts t k h v (us, w, e, q, b) o =
-    record {
-      before = us;
-      named = w;
-      test = k;
-      bytes = v;
-      joined = e;
-      begins = alive-at (us ++ (bang ∷ [])) (want (negating h)) (at-not b);
-      says = q;
-      operand = o;
-    }
+-- where an operand is wanted, a word or a quoted token stands as one: here, one that breaks the test's rule
+pub breaks-rule : (ts : List Token) (t : Token) (k : Name) (h : Hole factor) (v : Word) → At ts (operand k h) → Operand t v → ((x : Test) → StandsFor k v x → ⊥)
+    → (s : Stands ts t) × ((x : Test) → StandsFor (s .test) (s .bytes) x → ⊥)
+breaks-rule ts t k h v (us, w, e, q, b) o n = (
+  record {
+    before = us;
+    named = w;
+    test = k;
+    bytes = v;
+    joined = e;
+    begins = alive-at (us ++ (bang ∷ [])) (want (negating h)) (at-not b);
+    says = q;
+    operand = o;
+  },
+  n,
+)

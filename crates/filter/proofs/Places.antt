@@ -134,7 +134,7 @@ module _ (text : List ℕ) (room : ℕ) (ps : List Placed) (once : (qs : List Pl
   answers-refused i j (answers.forbidden p l m f g) = absurd (omega arith)
   answers-refused i j (answers.unclosed f u) = absurd (omega arith)
   answers-refused i j (answers.bad-token {ts} {t} f x a s) = at-token x (λ us. bad-token ts t us (x .leads) a s)
-  answers-refused i j (answers.bad-operand {ts} {t} f x a s) = at-token x (λ us. bad-operand ts t us (x .leads) a s)
+  answers-refused i j (answers.bad-operand {ts} {t} f x s n) = at-token x (λ us. bad-operand ts t us (x .leads) s n)
   answers-refused i j (answers.too-deep {ts} {t} f x o) = at-token x (λ us. too-deep ts t us (x .leads) o)
   answers-refused i j (answers.bad-end ts f l w n) = by-end (once ts l)
     where

@@ -2,27 +2,29 @@
 use Prim.Native.Nat.{ℕ, suc, _≤_, max}
 use native.Mathlib.Nat.{le-refl}
 use native.Mathlib.Omega.{arith}
-use mathlib.Core.Path.{_≡_, refl, ap, _∙_}
+use mathlib.Core.Path.{_≡_, refl, ap, _∙_, sym}
 use mathlib.Core.Bool.{Bool, true, false}
 use mathlib.Core.Option.{Option, none, some}
 use mathlib.Core.List.{List, [], _∷_, _++_, append-assoc, append-nil}
+use mathlib.Core.Logic.{_↔_}
 use lib.Dec.{ltb}
 use borrow.Author.Tests.{ltb-true, ltb-false}
 use Rattle.program.specs.Readings.{Test, Reading}
 use Rattle.token.specs.Tokens.{Word, Token, bang, word}
-use Rattle.filter.specs.Grammar.{Operand, a-word, a-quoted, factor, expression, Reads}
+use Rattle.filter.specs.Grammar.{Operand, factor, expression, Reads}
 use Rattle.filter.specs.Levels.{Open, levels}
 use Rattle.filter.specs.Answers.{Alive, Leads, Stands}
 use Rattle.filter.specs.Reader.{Hole, depth, State, want, operand, have, level, Why, bad, broken, deep, Move, takes, opens, stuck, breaks, Step, go, stop, came, Answer, ok, refused, fill, admit, follow, finish, conclude, answered, start, move, step, walk, read}
 use Rattle.filter.proofs.Walks.{no-came, step-takes, step-opens, walk-go, walk-stop, walk-takes, walk-join, walk-split, wider}
-use Rattle.filter.proofs.Complete.{name-moves, derived-walks, complete}
+use Rattle.filter.proofs.Complete.{name-moves, operand-fills, operand-moves, derived-walks, complete}
 use Rattle.filter.specs.Refused.{Opener}
 use Rattle.filter.proofs.Leveled.{Leveled, move-level, walk-within}
 use Rattle.filter.proofs.Agree.{levels-within, reached, open-one}
 use Rattle.filter.proofs.Sound.{Moved, Ended, move-at, finish-at, walk-at}
-use Rattle.filter.proofs.Endings.{leads, opened, stands}
+use Rattle.filter.proofs.Endings.{leads, opened, breaks-rule}
 use Rattle.operand.specs.declared.Name.{Name}
-use Rattle.operand.specs.Tests.{meaning}
+use Rattle.operand.specs.Tests.{StandsFor, meaning}
+use Rattle.operand.proofs.Meanings.{meaning-sound}
 
 -- what leads on within a limit is allowed
 pub leads-alive : {L : ℕ} {ts : List Token} → Leads L ts → Alive ts
@@ -45,7 +47,7 @@ pub data Judged (L : ℕ) : List Token → Answer → Type 0 where
   bad-token : (ts : List Token) (t : Token) (us : List Token) → Leads L ts → (Alive (ts ++ (t ∷ [])) → ⊥) → (Stands ts t → ⊥)
       → Judged L (ts ++ (t ∷ us)) (refused bad (t ∷ us))
   bad-end : {ts : List Token} → Leads L ts → ((r : Reading) → Reads expression ts r → ⊥) → Judged L ts (refused bad [])
-  bad-operand : (ts : List Token) (t : Token) (us : List Token) → Leads L ts → (Alive (ts ++ (t ∷ [])) → ⊥) → Stands ts t
+  bad-operand : (ts : List Token) (t : Token) (us : List Token) → Leads L ts → (s : Stands ts t) → ((x : Test) → StandsFor (s .test) (s .bytes) x → ⊥)
       → Judged L (ts ++ (t ∷ us)) (refused broken (t ∷ us))
   too-deep : (ts : List Token) (t : Token) (us : List Token) → Leads L ts → Open (ts ++ (t ∷ [])) (suc L)
       → Judged L (ts ++ (t ∷ us)) (refused deep (t ∷ us))
@@ -76,33 +78,73 @@ wanted M (have r h) x e = no-came _ e refl
 
 -- where an operand is wanted, none is stuck
 operand-unstuck : (k : Name) (h : Hole factor) {t : Token} {v : Word} → Operand t v → move (operand k h) t ≡ stuck → ⊥
-unfolding move
-operand-unstuck k h (a-word {v}) e = fill-moves h (meaning k v) e
-operand-unstuck k h (a-quoted {v}) e = fill-moves h (meaning k v) e
+operand-unstuck k h {v = v} o e = fill-moves h (meaning k v) (sym (operand-fills h k o) ∙ e)
+
+-- where an operand is wanted, one that is let in keeps its test's rule
+operand-kept : (M : ℕ) (k : Name) (h : Hole factor) {t : Token} {v : Word} → Operand t v → (s : State) → walk M (operand k h) (t ∷ []) ≡ came s
+    → (x : Test) × StandsFor k v x
+unfolding step admit fill
+operand-kept M k h {t} {v} o s e = by-meaning (meaning k v) refl
+  where
+    by-meaning : (m : Option Test) → meaning k v ≡ m → (x : Test) × StandsFor k v x
+    by-meaning (some x) p = (x, meaning-sound k v p)
+    by-meaning none p =
+        no-came _ e (walk-stop M (operand k h) broken t [] (ap (admit (ltb (level (operand k h)) M)) (operand-fills h k o ∙ ap (fill h) p)))
+
+-- a walk with a limit of L or more comes to a test's operand
+abbrev ToOperand : ℕ → List Token → Name → Type 0
+ToOperand L ts k = (M : ℕ) × (h : Hole factor) × (L ≤ M) × (walk M start ts ≡ came (operand k h))
+
+-- where t stands as an operand, a walk comes there
+stands-reached : (L : ℕ) {ts : List Token} {t : Token} (st : Stands ts t) → ToOperand L ts (st .test)
+unfolding walk
+stands-reached L {ts} st = by-bang (alive-reached L (st .before ++ (bang ∷ [])) (st .begins))
+  where
+    by-want : (M : ℕ) (y : State) → L ≤ M → walk M start (st .before) ≡ came y → (h : Hole factor) × (y ≡ want h)
+        → ToOperand L ts (st .test)
+    by-want M y l f (h, p) =
+        let a : walk M start (st .before) ≡ came (want h) = f ∙ ap came p in
+        let b : walk M start (st .before ++ (word (st .named) ∷ [])) ≡ came (operand (st .test) h) =
+        walk-join M start (st .before) (word (st .named) ∷ []) (want h) a
+        ∙ walk-takes M (want h) (operand (st .test) h) (word (st .named)) [] (name-moves h (st .says)) in
+        (M, h, l, rw (st .joined) b)
+
+    by-split : (M : ℕ) (x : State) → L ≤ M → (y : State) × (walk M start (st .before) ≡ came y) × (walk M y (bang ∷ []) ≡ came x)
+        → ToOperand L ts (st .test)
+    by-split M x l (y, f, g) = by-want M y l f (wanted M y x g)
+
+    by-bang : (M : ℕ) × (s : State) × (L ≤ M) × (walk M start (st .before ++ (bang ∷ [])) ≡ came s)
+        → ToOperand L ts (st .test)
+    by-bang (M, x, l, e) = by-split M x l (walk-split M start (st .before) (bang ∷ []) x e)
+
+-- a token that stands as an operand is allowed exactly when it keeps its test's rule
+pub operand-alive : {ts : List Token} {t : Token} (st : Stands ts t) → Alive (ts ++ (t ∷ [])) ↔ ((x : Test) × StandsFor (st .test) (st .bytes) x)
+unfolding walk
+operand-alive {ts} {t} st = (λ a. forth a (stands-reached 0 st), λ x. back x (stands-reached 0 st))
+  where
+    by-walk : (M N : ℕ) (h : Hole factor) (s : State) → M ≤ N → walk M start ts ≡ came (operand (st .test) h) → walk N start (ts ++ (t ∷ [])) ≡ came s
+        → (x : Test) × StandsFor (st .test) (st .bytes) x
+    by-walk M N h s l f e =
+        operand-kept N (st .test) h (st .operand) s (sym (walk-join N start ts (t ∷ []) _ (wider M N l start ts _ f)) ∙ e)
+
+    forth : Alive (ts ++ (t ∷ [])) → ToOperand 0 ts (st .test) → (x : Test) × StandsFor (st .test) (st .bytes) x
+    forth a (M, h, z, f) = let (N, s, l, e) = alive-reached M (ts ++ (t ∷ [])) a in by-walk M N h s l f e
+
+    back : (x : Test) × StandsFor (st .test) (st .bytes) x → ToOperand 0 ts (st .test) → Alive (ts ++ (t ∷ []))
+    back (x, m) (M, h, z, f) =
+        leads-alive (leads M (ts ++ (t ∷ [])) _ (walk-join M start ts (t ∷ []) _ f ∙ walk-takes M (operand (st .test) h) _ t [] (operand-moves h (st .operand) m)))
+
+-- so no continuation allows one that breaks it
+pub broken-dead : {ts : List Token} {t : Token} (st : Stands ts t) → ((x : Test) → StandsFor (st .test) (st .bytes) x → ⊥) → Alive (ts ++ (t ∷ [])) → ⊥
+broken-dead st n a = let (x, m) = operand-alive st .0 a in n x m
 
 module _ (L : ℕ) (ts : List Token) (s : State) (came-to : walk L start ts ≡ came s) where
-  -- where t stands as an operand, the walk has come to a test's operand
-  operand-there : {t : Token} → Stands ts t → (k : Name) × (h : Hole factor) × (s ≡ operand k h)
-  unfolding walk
-  operand-there st = by-bang (alive-reached L (st .before ++ (bang ∷ [])) (st .begins))
-    where
-      by-want : (M : ℕ) (y : State) → L ≤ M → walk M start (st .before) ≡ came y → (h : Hole factor) × (y ≡ want h)
-          → (k : Name) × (h : Hole factor) × (s ≡ operand k h)
-      by-want M y l f (h, p) =
-          let a : walk M start (st .before) ≡ came (want h) = f ∙ ap came p in
-          let b : walk M start (st .before ++ (word (st .named) ∷ [])) ≡ came (operand (st .test) h) =
-          walk-join M start (st .before) (word (st .named) ∷ []) (want h) a
-          ∙ walk-takes M (want h) (operand (st .test) h) (word (st .named)) [] (name-moves h (st .says)) in
-          let c : walk M start ts ≡ came (operand (st .test) h) = rw (st .joined) b in
-          let d : walk M start ts ≡ came s = wider L M l start ts s came-to in
-          (st .test, h, cc)
-
-      by-split : (M : ℕ) (x : State) → L ≤ M → (y : State) × (walk M start (st .before) ≡ came y) × (walk M y (bang ∷ []) ≡ came x)
-          → (k : Name) × (h : Hole factor) × (s ≡ operand k h)
-      by-split M x l (y, f, g) = by-want M y l f (wanted M y x g)
-
-      by-bang : (M : ℕ) × (s : State) × (L ≤ M) × (walk M start (st .before ++ (bang ∷ [])) ≡ came s) → (k : Name) × (h : Hole factor) × (s ≡ operand k h)
-      by-bang (M, x, l, e) = by-split M x l (walk-split M start (st .before) (bang ∷ []) x e)
+  -- where t stands as an operand, the walk has come to its test's operand
+  operand-there : {t : Token} (st : Stands ts t) → (h : Hole factor) × (s ≡ operand (st .test) h)
+  operand-there st =
+      let (M, h, l, f) = stands-reached L st in
+      let d : walk M start ts ≡ came s = wider L M l start ts s came-to in
+      (h, cc)
 
   -- a token that the state refuses, whatever the limit, is allowed by no continuation
   dead : (t : Token) (w : Why) → ((M : ℕ) → step M s t ≡ stop w) → Alive (ts ++ (t ∷ [])) → ⊥
@@ -116,7 +158,7 @@ module _ (L : ℕ) (ts : List Token) (s : State) (came-to : walk L start ts ≡ 
 abbrev Stepped : ℕ → List Token → Token → Step → Type 0
 Stepped L ts t (go s) = walk L start (ts ++ (t ∷ [])) ≡ came s
 Stepped L ts t (stop bad) = (Alive (ts ++ (t ∷ [])) → ⊥) × (Stands ts t → ⊥)
-Stepped L ts t (stop broken) = (Alive (ts ++ (t ∷ [])) → ⊥) × Stands ts t
+Stepped L ts t (stop broken) = (s : Stands ts t) × ((x : Test) → StandsFor (s .test) (s .bytes) x → ⊥)
 Stepped L ts t (stop deep) = Open (ts ++ (t ∷ [])) (suc L) × Opener t
 
 -- every step says so
@@ -137,10 +179,10 @@ stepped L ts s t e = by-move (move s t) refl (move-at ts s t (walk-at L ts s e))
         (rw (← k) (opened (suc L) (ts ++ (t ∷ [])) x (came-on (suc L) x (omega arith) (step-opens (suc L) s x t p (omega arith)))), o)
     by-move stuck p w v b q = (
       dead L ts s e t bad (λ M. ap (admit (ltb (level s) M)) p),
-      λ st. let (k, h, z) = operand-there L ts s e st in
-          operand-unstuck k h (st .operand) (rw z at p),
+      λ st. let (h, z) = operand-there L ts s e st in
+          operand-unstuck (st .test) h (st .operand) (rw z at p),
     )
-    by-move breaks p (k, h, v, i, o) u b q = (dead L ts s e t broken (λ M. ap (admit (ltb (level s) M)) p), stands ts t k h v i o)
+    by-move breaks p (k, h, v, i, o, n) u b q = breaks-rule ts t k h v i o n
 
 -- ---- the answer is one that the words give
 
@@ -205,21 +247,21 @@ only L (bad-token ts t us l no-more no-operand) = stops L ts t us bad l by-step
     by-step : (x : Step) → Stepped L ts t x → x ≡ stop bad
     by-step (go s) w = absurd (no-more (leads-alive (leads L _ s w)))
     by-step (stop bad) w = refl
-    by-step (stop broken) w = absurd (no-operand (w .1))
+    by-step (stop broken) w = absurd (no-operand (w .0))
     by-step (stop deep) w = absurd (no-more (open-alive (w .0)))
-only L (bad-operand ts t us l no-more st) = stops L ts t us broken l by-step
+only L (bad-operand ts t us l st n) = stops L ts t us broken l by-step
   where
     by-step : (x : Step) → Stepped L ts t x → x ≡ stop broken
-    by-step (go s) w = absurd (no-more (leads-alive (leads L _ s w)))
+    by-step (go s) w = absurd (broken-dead st n (leads-alive (leads L _ s w)))
     by-step (stop bad) w = absurd (w .1 st)
     by-step (stop broken) w = refl
-    by-step (stop deep) w = absurd (no-more (open-alive (w .0)))
+    by-step (stop deep) w = absurd (broken-dead st n (open-alive (w .0)))
 only L (too-deep ts t us l o) = stops L ts t us deep l by-step
   where
     by-step : (x : Step) → Stepped L ts t x → x ≡ stop deep
     by-step (go s) w = absurd (not-deeper L (ts ++ (t ∷ [])) s w o)
     by-step (stop bad) w = absurd (w .0 (open-alive o))
-    by-step (stop broken) w = absurd (w .0 (open-alive o))
+    by-step (stop broken) w = absurd (broken-dead (w .0) (w .1) (open-alive o))
     by-step (stop deep) w = refl
 only L (bad-end {ts} l none-of) = by-walk (leads-reached L ts l)
   where
@@ -246,7 +288,7 @@ deep-opener {L} {ts} {t} l o = by-walk (leads-reached L ts l)
     by-step : (x : Step) → Stepped L ts t x → Opener t
     by-step (go s) w = absurd (not-deeper L (ts ++ (t ∷ [])) s w o)
     by-step (stop bad) w = absurd (w .0 (open-alive o))
-    by-step (stop broken) w = absurd (w .0 (open-alive o))
+    by-step (stop broken) w = absurd (broken-dead (w .0) (w .1) (open-alive o))
     by-step (stop deep) w = w .1
 
     by-walk : (s : State) × (walk L start ts ≡ came s) → Opener t

@@ -3,7 +3,7 @@ use Prim.Native.Nat.{ℕ, suc, _+_, _*_, _≤_, _<_}
 use mathlib.Core.Path.{_≡_}
 use mathlib.Core.List.{List, [], _∷_, _++_}
 use lib.ListN.{length, getD}
-use Rattle.program.specs.Readings.{Reading, weight}
+use Rattle.program.specs.Readings.{Test, Reading, weight}
 use Rattle.program.specs.Records.{weightLimit}
 use Rattle.program.specs.Layout.{recordSize}
 use Rattle.token.specs.Texts.{textLimit, Allowed, Every}
@@ -12,6 +12,7 @@ use Rattle.filter.specs.Words.{name, Says}
 use Rattle.filter.specs.Grammar.{Operand, expression, Reads}
 use Rattle.filter.specs.Levels.{levelLimit, levels, Open}
 use Rattle.operand.specs.declared.Name.{Name}
+use Rattle.operand.specs.Tests.{StandsFor}
 
 -- some continuation of these tokens is derived: tokens of any number may follow
 pub record Alive (ts : List Token) : Type 0 where
@@ -82,7 +83,7 @@ pub data Answers (text : List ℕ) (room : ℕ) : Outcome → Type 0 where
   bad-end : (ts : List Placed) → Fine text → Lexes 0 text ts → Leads levelLimit (bare ts) → ((r : Reading) → Reads expression (bare ts) r → ⊥)
       → Answers text room (refused 4 (length text))
   -- 5: operand breaks its test's rule
-  bad-operand : {ts : List Token} {t : Token} {p : ℕ} → Fine text → Reaches text ts t p → (Alive (ts ++ (t ∷ [])) → ⊥) → Stands ts t
+  bad-operand : {ts : List Token} {t : Token} {p : ℕ} → Fine text → Reaches text ts t p → (s : Stands ts t) → ((x : Test) → StandsFor (s .test) (s .bytes) x → ⊥)
       → Answers text room (refused 5 p)
   -- 6: `(` or `!` opening level 33
   too-deep : {ts : List Token} {t : Token} {p : ℕ} → Fine text → Reaches text ts t p → Open (ts ++ (t ∷ [])) (suc levelLimit)
