@@ -11,6 +11,7 @@ use Rattle.filter.specs.Answers.{Alive, Leads, Stands}
 use Rattle.filter.specs.Reader.{Hole, whole, grouping, first, oring, head, anding, negating, State, want, operand, have, level, came, settle, outer, end, finish, start, walk}
 use Rattle.filter.proofs.Walks.{walk-takes, walk-join}
 use Rattle.filter.proofs.Complete.{flag-moves, operand-moves, close-moves}
+use Rattle.filter.proofs.Counts.{levels-open}
 use Rattle.filter.proofs.Agree.{levels-within, open-level}
 use Rattle.filter.proofs.Sound.{at-not, At, finish-at, walk-moves, walk-at}
 use Rattle.operand.specs.declared.Name.{Name}
@@ -92,7 +93,8 @@ leads L ts s e =
       reading = ends 0 s .reading;
       reads = ends-at ts s (ends 0 s) (walk-at L ts s e);
       within =
-          levels-within L (ts ++ closing s) (ends L s .last) (walk-join L start ts (closing s) s e ∙ ends L s .walked) (ends-at ts s (ends 0 s) (walk-at L ts s e));
+          levels-open _ L .0
+          (levels-within L (ts ++ closing s) (ends L s .last) (walk-join L start ts (closing s) s e ∙ ends L s .walked) (ends-at ts s (ends 0 s) (walk-at L ts s e)));
     }
 
 -- and have as many levels open as the state

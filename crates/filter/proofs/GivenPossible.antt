@@ -20,7 +20,7 @@ use Rattle.token.specs.Texts.{textLimit}
 use Rattle.token.specs.Tokens.{Token, bang, word, quoted}
 use Rattle.filter.specs.Words.{flag, name, Says}
 use Rattle.filter.specs.Grammar.{factor, a-quoted, Reads, flagged, tested, negated, single, anded, lone, ored}
-use Rattle.filter.specs.Levels.{levels}
+use Rattle.filter.proofs.Counts.{levels}
 use Rattle.filter.specs.Answers.{Answers, compiles, compiled}
 use Rattle.filter.specs.Given.{Given}
 use Rattle.filter.proofs.CompiledValid.{reads-possible}

@@ -8,7 +8,7 @@ use lib.Seq.{drop-at}
 use Rattle.program.specs.Readings.{Reading}
 use Rattle.token.specs.Tokens.{Token, Placed, placed, Lexes}
 use Rattle.filter.specs.Grammar.{expression, Reads}
-use Rattle.filter.specs.Levels.{levelLimit, levels}
+use Rattle.filter.specs.Levels.{levelLimit, openAt}
 use Rattle.filter.specs.Answers.{Leads, bare, Fine, Reaches, Derives, Answers}
 use Rattle.filter.specs.Answers as answers
 use Rattle.filter.specs.Answering.{numberOf, refusalOf, startOf, placeOf}
@@ -98,7 +98,7 @@ module _ {text : List ℕ} {room : ℕ} (ps : List Placed) (fine : Fine text) (l
   refused-answers j = judged-answers refl j
 
 -- a reading of the text's tokens is derived for the text
-pub read-derives : {text : List ℕ} {r : Reading} (ps : List Placed) → Lexes 0 text ps → (d : Reads expression (bare ps) r) → levels d ≤ levelLimit → Derives text r
+pub read-derives : {text : List ℕ} {r : Reading} (ps : List Placed) → Lexes 0 text ps → (d : Reads expression (bare ps) r) → ((n : ℕ) → openAt d n ≤ levelLimit) → Derives text r
 read-derives ps l d w = record { tokens = ps; lexed = l; reads = d; within = w }
 
 -- the reader refuses the tokens ps, and that is this number and place; e is the end's place

@@ -12,13 +12,14 @@ use borrow.Author.Tests.{ltb-true, ltb-false}
 use Rattle.program.specs.Readings.{Test, Reading}
 use Rattle.token.specs.Tokens.{Word, Token, bang, word}
 use Rattle.filter.specs.Grammar.{Operand, factor, expression, Reads}
-use Rattle.filter.specs.Levels.{Open, levels}
+use Rattle.filter.specs.Levels.{openAt, Open}
 use Rattle.filter.specs.Answers.{Alive, Leads, Stands}
 use Rattle.filter.specs.Reader.{Hole, depth, State, want, operand, have, level, Why, bad, broken, deep, Move, takes, opens, stuck, breaks, Step, go, stop, came, Answer, ok, refused, fill, admit, follow, finish, conclude, answered, start, move, step, walk, read}
 use Rattle.filter.proofs.Walks.{no-came, step-takes, step-opens, walk-go, walk-stop, walk-takes, walk-join, walk-split, wider}
 use Rattle.filter.proofs.Complete.{name-moves, operand-fills, operand-moves, derived-walks, complete}
 use Rattle.filter.specs.Refused.{Opener}
 use Rattle.filter.proofs.Leveled.{Leveled, move-level, walk-within}
+use Rattle.filter.proofs.Counts.{levels, levels-open}
 use Rattle.filter.proofs.Agree.{levels-within, reached, open-one}
 use Rattle.filter.proofs.Sound.{Moved, Ended, move-at, finish-at, walk-at}
 use Rattle.filter.proofs.Endings.{leads, opened, breaks-rule}
@@ -38,12 +39,12 @@ open-alive o = record { more = o .more; reading = o .reading; reads = o .reads }
 pub earlier : {L : ℕ} (ts us : List Token) → Leads L (ts ++ us) → Leads L ts
 earlier {L} ts us l = by-parts (rw (← (append-assoc ts us (l .more))) (l .reads, l .within))
   where
-    by-parts : (d : Reads expression (ts ++ (us ++ l .more)) (l .reading)) × (levels d ≤ L) → Leads L ts
+    by-parts : (d : Reads expression (ts ++ (us ++ l .more)) (l .reading)) × ((n : ℕ) → openAt d n ≤ L) → Leads L ts
     by-parts (d, w) = record { more = us ++ l .more; reading = l .reading; reads = d; within = w }
 
 -- what the words say of an answer: for the tokens ts, with at most L levels open at once
 pub data Judged (L : ℕ) : List Token → Answer → Type 0 where
-  reads : {ts : List Token} {r : Reading} (d : Reads expression ts r) → levels d ≤ L → Judged L ts (ok r)
+  reads : {ts : List Token} {r : Reading} (d : Reads expression ts r) → ((n : ℕ) → openAt d n ≤ L) → Judged L ts (ok r)
   bad-token : (ts : List Token) (t : Token) (us : List Token) → Leads L ts → (Alive (ts ++ (t ∷ [])) → ⊥) → (Stands ts t → ⊥)
       → Judged L (ts ++ (t ∷ us)) (refused bad (t ∷ us))
   bad-end : {ts : List Token} → Leads L ts → ((r : Reading) → Reads expression ts r → ⊥) → Judged L ts (refused bad [])
@@ -67,7 +68,7 @@ alive-reached L ts a =
 
 -- the state after tokens that lead on
 pub leads-reached : (L : ℕ) (ts : List Token) → Leads L ts → (s : State) × (walk L start ts ≡ came s)
-leads-reached L ts l = reached L ts (l .more) (l .reads) (l .within)
+leads-reached L ts l = reached L ts (l .more) (l .reads) (levels-open (l .reads) L .1 (l .within))
 
 -- only where a factor is wanted does `!` go on
 wanted : (M : ℕ) (s x : State) → walk M s (bang ∷ []) ≡ came x → (h : Hole factor) × (s ≡ want h)
@@ -200,7 +201,7 @@ judged-end L ts s e = by-end (finish s) refl (finish-at ts s (walk-at L ts s e))
 
     by-end : (o : Option Reading) → finish s ≡ o → Ended ts o → Judged L ts (conclude o)
     by-end none p w = bad-end (leads L ts s e) (none-derived p)
-    by-end (some r) p w = reads w (levels-within L ts s e w)
+    by-end (some r) p w = reads w (levels-open w L .0 (levels-within L ts s e w))
 
 walk-judged : (L : ℕ) (ts : List Token) (s : State) (us : List Token) → walk L start ts ≡ came s → Judged L (ts ++ us) (answered (walk L s us))
 unfolding walk follow answered

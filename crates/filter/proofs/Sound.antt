@@ -10,9 +10,10 @@ use Rattle.program.specs.Readings.{Test, and, or, Reading}
 use Rattle.token.specs.Tokens.{Word, Token, open′, close, bang, word, quoted}
 use Rattle.filter.specs.Words.{Role, joins, flag, name, Says}
 use Rattle.filter.specs.Grammar.{Operand, a-word, a-quoted, Part, expression, conjunction, factor, Reads, flagged, tested, negated, grouped, single, anded, lone, ored}
-use Rattle.filter.specs.Levels.{levels}
+use Rattle.filter.specs.Levels.{openAt}
 use Rattle.filter.proofs.Walks.{no-ok}
 use Rattle.filter.specs.Reader.{Hole, whole, grouping, first, oring, head, anding, negating, State, want, operand, have, level, Move, takes, opens, stuck, breaks, Way, came, stopped, ok, settle, outer, again, leave, end, begin, fill, join, admit, follow, finish, conclude, answered, start, move, step, walk, read}
+use Rattle.filter.proofs.Counts.{levels-open}
 use Rattle.filter.proofs.Agree.{levels-within}
 use Rattle.operand.specs.declared.Name.{Name}
 use Rattle.operand.specs.Tests.{StandsFor, meaning}
@@ -173,8 +174,8 @@ module _ (L : ℕ) where
       by-way (stopped y us) p q = no-ok (answered (stopped y us)) q refl
 
   -- what is read is derived so, within the limit
-  pub sound : (ts : List Token) {r : Reading} → read L ts ≡ ok r → (d : Reads expression ts r) × (levels d ≤ L)
+  pub sound : (ts : List Token) {r : Reading} → read L ts ≡ ok r → (d : Reads expression ts r) × ((n : ℕ) → openAt d n ≤ L)
   sound ts {r} e = by-walk (ok-walks ts r e)
     where
-      by-walk : (s : State) × (walk L start ts ≡ came s) × (finish s ≡ some r) → (d : Reads expression ts r) × (levels d ≤ L)
-      by-walk (s, p, q) = (ended ts s p q, levels-within L ts s p (ended ts s p q))
+      by-walk : (s : State) × (walk L start ts ≡ came s) × (finish s ≡ some r) → (d : Reads expression ts r) × ((n : ℕ) → openAt d n ≤ L)
+      by-walk (s, p, q) = (ended ts s p q, levels-open _ L .0 (levels-within L ts s p (ended ts s p q)))

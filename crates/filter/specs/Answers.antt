@@ -10,7 +10,7 @@ use Rattle.token.specs.Texts.{textLimit, Allowed, Every}
 use Rattle.token.specs.Tokens.{Word, Token, bang, word, Placed, placed, Lexes, Unclosed}
 use Rattle.filter.specs.Words.{name, Says}
 use Rattle.filter.specs.Grammar.{Operand, expression, Reads}
-use Rattle.filter.specs.Levels.{levelLimit, levels, Open}
+use Rattle.filter.specs.Levels.{levelLimit, openAt, Open}
 use Rattle.operand.specs.declared.Name.{Name}
 use Rattle.operand.specs.Tests.{StandsFor}
 
@@ -25,7 +25,7 @@ pub record Leads (limit : ℕ) (ts : List Token) : Type 0 where
   pub more : List Token
   pub reading : Reading
   pub reads : Reads expression (ts ++ more) reading
-  pub within : levels reads ≤ limit
+  pub within : (n : ℕ) → openAt reads n ≤ limit
 
 -- after these tokens t stands as an operand: the last of them names a test that has one, where a factor may begin
 pub record Stands (ts : List Token) (t : Token) : Type 0 where
@@ -61,7 +61,7 @@ pub record Derives (text : List ℕ) (r : Reading) : Type 0 where
   pub tokens : List Placed
   pub lexed : Lexes 0 text tokens
   pub reads : Reads expression (bare tokens) r
-  pub within : levels reads ≤ levelLimit
+  pub within : (n : ℕ) → openAt reads n ≤ levelLimit
 
 pub data Outcome : Type 0 where
   compiled : Reading → Outcome
