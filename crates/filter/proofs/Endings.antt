@@ -20,7 +20,7 @@ use Rattle.operand.proofs.Samples.{sampleText, sampleTest, sample}
 use Rattle.filter.proofs.Roles.{loopsWord, loops-said}
 
 -- the `)` that a hole wants
-closers : {p : Part} → Hole p → List Token
+unfoldable pub closers : {p : Part} → Hole p → List Token
 closers whole = []
 closers (grouping h) = close ∷ closers h
 closers (first h) = closers h
@@ -43,7 +43,7 @@ Closes L conjunction h = (r : Reading) → Ends L (have r h) (closers h)
 Closes L expression h = (r c : Reading) (k : Hole conjunction) → outer c k ≡ (r, h) → Ends L (have c k) (closers h)
 
 -- the tokens that bring a state to the end of a text
-closing : State → List Token
+unfoldable pub closing : State → List Token
 closing (want h) = word (loopsWord) ∷ closers h
 closing (operand k h) = word (sampleText k) ∷ closers h
 closing (have r h) = closers h
@@ -81,9 +81,13 @@ module _ (L : ℕ) where
 ends-at : (ts : List Token) (s : State) (f : Ends 0 s (closing s)) → At ts s → Reads expression (ts ++ closing s) (f .reading)
 ends-at ts s f a = rw (f .finished) at (finish-at (ts ++ closing s) (f .last) (rw (f .walked) at (walk-moves 0 ts s (closing s) a)))
 
--- tokens that lead to a state are allowed
-pub alive-at : (ts : List Token) (s : State) → At ts s → Alive ts
-alive-at ts s a = record { more = closing s; reading = ends 0 s .reading; reads = ends-at ts s (ends 0 s) a }
+-- so they have a reading with it
+pub closed-at : (ts : List Token) (s : State) → At ts s → (r : Reading) × Reads expression (ts ++ closing s) r
+closed-at ts s a = (ends 0 s .reading, ends-at ts s (ends 0 s) a)
+
+-- and are allowed
+alive-at : (ts : List Token) (s : State) → At ts s → Alive ts
+alive-at ts s a = record { more = closing s; reading = closed-at ts s a .0; reads = closed-at ts s a .1 }
 
 -- tokens that are walked within a limit lead on within it
 pub leads : (L : ℕ) (ts : List Token) (s : State) → walk L start ts ≡ came s → Leads L ts

@@ -3,6 +3,7 @@ pub mod Answered
 pub mod CompiledValid
 pub mod Compiles
 pub mod Complete
+pub mod Continued
 pub mod Counts
 pub mod DecimalTexts
 pub mod Endings

@@ -60,7 +60,7 @@ fill-moves h none e = let z : _≡_ {A = ℕ} 0 1 = cc in omega arith
 fill-moves h (some x) e = let z : _≡_ {A = ℕ} 0 1 = cc in omega arith
 
 -- the state after tokens that are allowed, for some limit
-alive-reached : (L : ℕ) (ts : List Token) → Alive ts → (M : ℕ) × (s : State) × (L ≤ M) × (walk M start ts ≡ came s)
+pub alive-reached : (L : ℕ) (ts : List Token) → Alive ts → (M : ℕ) × (s : State) × (L ≤ M) × (walk M start ts ≡ came s)
 alive-reached L ts a =
     let M : ℕ = max L (levels (a .reads)) in
     let (s, e) = reached M ts (a .more) (a .reads) (omega arith) in
