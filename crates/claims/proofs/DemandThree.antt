@@ -34,6 +34,7 @@ use Rattle.filter.specs.Refused.{FirstRefused}
 use Rattle.filter.proofs.Complete as complete
 use Rattle.filter.proofs.CompiledValid.{reads-possible}
 use Rattle.filter.proofs.Answered.{answer-given, only-answer}
+use Rattle.filter.proofs.Refusals.{has-numbered}
 use Rattle.filter.proofs.RefusedTexts.{first-refused, refused-numbered}
 use Rattle.judge.specs.declared.Tally.{Tally}
 use Rattle.judge.specs.Tallies.{FullTally}
@@ -137,10 +138,8 @@ refused-only : {text : List ℕ} {room : ℕ} (o : Outcome) → Answers text roo
 refused-only o (words.too-long h) f l n = absurd (omega (arith, f .short))
 refused-only o (words.forbidden p h i j k) f l n = absurd (k (every-place (f .allowed) p i))
 refused-only o (words.unclosed g u) f l n = absurd (unclosed-none u l)
-refused-only {room = room} o (words.bad-token g x a s) f l n = first-refused {room = room} (omega arith) (omega arith) (words.bad-token g x a s)
+refused-only {room = room} o (words.bad-first g x h) f l n = first-refused {room = room} (has-numbered h .0) (has-numbered h .1) (words.bad-first g x h)
 refused-only {room = room} o (words.bad-end ts g k w h) f l n = first-refused {room = room} (omega arith) (omega arith) (words.bad-end ts g k w h)
-refused-only {room = room} o (words.bad-operand g x s h) f l n = first-refused {room = room} (omega arith) (omega arith) (words.bad-operand g x s h)
-refused-only {room = room} o (words.too-deep g x w) f l n = first-refused {room = room} (omega arith) (omega arith) (words.too-deep g x w)
 refused-only o (words.too-heavy {r} g d w) f l n = absurd (n r (derived d))
 refused-only o (words.no-room {r} g d w k) f l n = absurd (n r (derived d))
 refused-only o (words.compiles {r} g d w k) f l n = absurd (n r (derived d))

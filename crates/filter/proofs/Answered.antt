@@ -107,10 +107,8 @@ module _ (text : List ℕ) (room : ℕ) where
       let e : allowedFront text ≡ p = first-forbidden x in
       rw (le-ltb textLimit (length text) h, e, lt-ltb p (length text) i)
   only-answer (words.unclosed {p} f u) = fine-answer f ∙ ap (lexed (length text) room) (read-unclosed text p .1 u)
-  only-answer (words.bad-token f x a s) = refused-answer _ f (x .lexed) (omega arith) (omega arith) (words.bad-token f x a s)
+  only-answer (words.bad-first f x h) = refused-answer _ f (x .lexed) (refusals.has-numbered h .0) (refusals.has-numbered h .1) (words.bad-first f x h)
   only-answer (words.bad-end ts f l w n) = refused-answer ts f l (omega arith) (omega arith) (words.bad-end ts f l w n)
-  only-answer (words.bad-operand f x s n) = refused-answer _ f (x .lexed) (omega arith) (omega arith) (words.bad-operand f x s n)
-  only-answer (words.too-deep f x o) = refused-answer _ f (x .lexed) (omega arith) (omega arith) (words.too-deep f x o)
   only-answer (words.too-heavy {r} f d h) = derived-answer f d ∙ rw (lt-ltb weightLimit (weight r) h)
   only-answer (words.no-room {r} f d h k) = derived-answer f d ∙ rw (le-ltb weightLimit (weight r) h, lt-ltb room (recordSize * weight r) k)
   only-answer (words.compiles {r} f d h k) = derived-answer f d ∙ rw (le-ltb weightLimit (weight r) h, le-ltb room (recordSize * weight r) k)

@@ -22,7 +22,7 @@ use Rattle.filter.proofs.Sayings.{wordly, wordly-sound, said-written}
 use Rattle.filter.proofs.Spelling.{Proper, spell, positioned, space-stops, spell-lexes, bare-positioned, seen, spell-allowed}
 use Rattle.filter.proofs.Sound.{walk-at}
 use Rattle.filter.proofs.Endings.{closers, closing, closed-at}
-use Rattle.filter.proofs.Refusals.{alive-reached}
+use Rattle.filter.proofs.Operands.{alive-reached}
 use Rattle.filter.proofs.Places.{bare-append}
 
 -- a text with these tokens goes on with allowed bytes, whose tokens come after its own; and all together are derived

@@ -11,6 +11,7 @@ pub mod GivenPossible
 pub mod Leveled
 pub mod Located
 pub mod OperandTexts
+pub mod Operands
 pub mod Overlay
 pub mod Parts
 pub mod Places

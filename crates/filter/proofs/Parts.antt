@@ -40,7 +40,7 @@ use Rattle.filter.specs.declared.Parsed.{Parsed}
 use Rattle.filter.specs.declared.Parsed.the-variants.{Upto, Refused}
 use Rattle.filter.proofs.Role as roles
 use Rattle.filter.proofs.Complete.{close-moves}
-use Rattle.filter.specs.Refused.{Opener, a-group, a-bang}
+use Rattle.filter.specs.Answers.{Opener, a-group, a-bang}
 use Rattle.filter.proofs.Overlay.{wrote-flip, wrote-pass}
 use Rattle.filter.proofs.Steps.{run-none, end-none, token-within, ready-next, next-behind, from-next, fewer-next, run-takes, run-opens, run-stuck, run-deep, start-token, start-end, stopped-here, passed-none, passed-next, passed-both}
 

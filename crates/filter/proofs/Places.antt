@@ -9,12 +9,12 @@ use Rattle.program.specs.Readings.{Reading}
 use Rattle.token.specs.Tokens.{Token, Placed, placed, Lexes}
 use Rattle.filter.specs.Grammar.{expression, Reads}
 use Rattle.filter.specs.Levels.{levelLimit, openAt}
-use Rattle.filter.specs.Answers.{Leads, bare, Fine, Reaches, Derives, Answers}
+use Rattle.filter.specs.Answers.{Leads, Has, bare, Fine, Reaches, Derives, Answers}
 use Rattle.filter.specs.Answers as answers
 use Rattle.filter.specs.Answering.{numberOf, refusalOf, startOf, placeOf}
 use Rattle.filter.specs.Reader.{Why, bad, ok, refused, read}
 use Rattle.filter.proofs.Complete.{complete}
-use Rattle.filter.proofs.Refusals.{Judged, bad-token, bad-end, bad-operand, too-deep, only}
+use Rattle.filter.proofs.Refusals.{has-why, Judged, at-token, bad-end, only}
 
 -- tokens of joined lists are joined
 pub bare-append : (ps qs : List Placed) → bare (ps ++ qs) ≡ bare ps ++ bare qs
@@ -88,9 +88,7 @@ module _ {text : List ℕ} {room : ℕ} (ps : List Placed) (fine : Fine text) (l
   -- the same, with the tokens named
   judged-answers : {ts us : List Token} {w : Why} → bare ps ≡ ts → Judged levelLimit ts (refused w us) → Answers text room (answers.refused (numberOf (refusalOf w)) (placeOf (length text) ps us))
   unfolding numberOf
-  judged-answers e (bad-token ts t us l f g) = answers.bad-token fine (reaches text (length text) ps ts t us lexed e l) f g
-  judged-answers e (bad-operand ts t us l f g) = answers.bad-operand fine (reaches text (length text) ps ts t us lexed e l) f g
-  judged-answers e (too-deep ts t us l o) = answers.too-deep fine (reaches text (length text) ps ts t us lexed e l) o
+  judged-answers e (at-token ts t us l h) = answers.bad-first fine (reaches text (length text) ps ts t us lexed e l) h
   judged-answers e (bad-end l f) = rw (place-end (length text) ps) (answers.bad-end ps fine lexed (rw e l) (rw e f))
 
   -- a refusal of the text's tokens is the text's answer
@@ -110,11 +108,11 @@ pub record Refused (e : ℕ) (ps : List Placed) (n p : ℕ) : Type 0 where
   pub there : placeOf e ps left ≡ p
 
 module _ (text : List ℕ) (room : ℕ) (ps : List Placed) (once : (qs : List Placed) → Lexes 0 text qs → qs ≡ ps) where
-  -- a token that the text reaches, and that the words judge so whatever follows
-  at-token : {ts : List Token} {t : Token} {p : ℕ} {w : Why} → Reaches text ts t p → ((us : List Token) → Judged levelLimit (ts ++ (t ∷ us)) (refused w (t ∷ us)))
+  -- a token that the text reaches, and that has a number
+  first-refused : {ts : List Token} {t : Token} {p : ℕ} (w : Why) → Reaches text ts t p → Has levelLimit ts t (numberOf (refusalOf w))
       → Refused (length text) ps (numberOf (refusalOf w)) p
   unfolding bare
-  at-token {ts} {t} {p} {w} x j = by-tokens (once _ (x .lexed)) (x .tokens)
+  first-refused {ts} {t} {p} w x j = by-tokens (once _ (x .lexed)) (x .tokens)
     where
       by-tokens : x .front ++ (placed p t ∷ x .back) ≡ ps → bare (x .front) ≡ ts → Refused (length text) ps (numberOf (refusalOf w)) p
       by-tokens f g =
@@ -122,7 +120,7 @@ module _ (text : List ℕ) (room : ℕ) (ps : List Placed) (once : (qs : List Pl
           record {
             why = w;
             left = t ∷ bare (x .back);
-            answer = rw h (only levelLimit (j (bare (x .back))));
+            answer = rw h (only levelLimit (at-token ts t (bare (x .back)) (x .leads) j));
             numbered = refl;
             there = rw (← f) (place-token (length text) (x .front) p t (x .back));
           }
@@ -133,9 +131,10 @@ module _ (text : List ℕ) (room : ℕ) (ps : List Placed) (once : (qs : List Pl
   answers-refused i j (answers.too-long l) = absurd (omega arith)
   answers-refused i j (answers.forbidden p l m f g) = absurd (omega arith)
   answers-refused i j (answers.unclosed f u) = absurd (omega arith)
-  answers-refused i j (answers.bad-token {ts} {t} f x a s) = at-token x (λ us. bad-token ts t us (x .leads) a s)
-  answers-refused i j (answers.bad-operand {ts} {t} f x s n) = at-token x (λ us. bad-operand ts t us (x .leads) s n)
-  answers-refused i j (answers.too-deep {ts} {t} f x o) = at-token x (λ us. too-deep ts t us (x .leads) o)
+  answers-refused {n} {p} i j (answers.bad-first f x h) = by-why (has-why h)
+    where
+      by-why : (w : Why) × (numberOf (refusalOf w) ≡ n) → Refused (length text) ps n p
+      by-why (w, e) = rw e at (first-refused w x (rw e h))
   answers-refused i j (answers.bad-end ts f l w n) = by-end (once ts l)
     where
       by-end : ts ≡ ps → Refused (length text) ps 4 (length text)

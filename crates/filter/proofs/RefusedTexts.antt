@@ -5,9 +5,9 @@ use mathlib.Core.List.{List, [], _∷_, _++_}
 use lib.ListN.{length}
 use Rattle.token.specs.Tokens.{Token, placed}
 use Rattle.filter.specs.Levels.{levelLimit}
-use Rattle.filter.specs.Answers.{Leads, Reaches, refused, Answers, too-long, forbidden, unclosed, bad-token, bad-end, bad-operand, too-deep, too-heavy, no-room}
-use Rattle.filter.specs.Refused.{FirstToken, FirstRefused, a-token, the-end, an-operand, a-level}
-use Rattle.filter.proofs.Refusals.{leads-alive, earlier, broken-dead, deep-ends, deep-opener}
+use Rattle.filter.specs.Answers.{Leads, Reaches, refused, Answers, too-long, forbidden, unclosed, bad-first, bad-end, too-heavy, no-room}
+use Rattle.filter.specs.Refused.{FirstToken, FirstRefused, a-token, the-end}
+use Rattle.filter.proofs.Refusals.{earlier, has-ends, has-numbered}
 use Rattle.filter.proofs.TokenBytes.{Stood, lexes-stood, every-one, stood-within}
 
 -- the bytes of a token that the text reaches stand at its place
@@ -27,10 +27,8 @@ pub first-refused : {text : List ℕ} {room n p : ℕ} → 4 ≤ n → n ≤ 6 �
 first-refused i j (too-long l) = absurd (omega arith)
 first-refused i j (forbidden p l m f g) = absurd (omega arith)
 first-refused i j (unclosed f u) = absurd (omega arith)
-first-refused i j (bad-token f x a s) = a-token (first-token x (λ m. a (leads-alive m))) a s
+first-refused i j (bad-first f x h) = a-token (first-token x (has-ends h)) h
 first-refused i j (bad-end ts f l w n) = the-end (record { tokens = ts; lexed = l; leads = λ xs ys e. earlier xs ys (rw e at w); unread = n })
-first-refused i j (bad-operand f x s n) = an-operand (first-token x (λ m. broken-dead s n (leads-alive m))) s n
-first-refused i j (too-deep f x o) = a-level (first-token x (deep-ends o)) (deep-opener (x .leads) o) o
 first-refused i j (too-heavy f d w) = absurd (omega arith)
 first-refused i j (no-room f d w l) = absurd (omega arith)
 
@@ -39,9 +37,7 @@ pub refused-numbered : {text : List ℕ} {room n p : ℕ} → Answers text room 
 refused-numbered (too-long l) = (omega arith, omega arith)
 refused-numbered (forbidden p l m f g) = (omega arith, omega arith)
 refused-numbered (unclosed f u) = (omega arith, omega arith)
-refused-numbered (bad-token f x a s) = (omega arith, omega arith)
+refused-numbered (bad-first f x h) = (omega (arith, has-numbered h), omega (arith, has-numbered h))
 refused-numbered (bad-end ts f l w n) = (omega arith, omega arith)
-refused-numbered (bad-operand f x s n) = (omega arith, omega arith)
-refused-numbered (too-deep f x o) = (omega arith, omega arith)
 refused-numbered (too-heavy f d w) = (omega arith, omega arith)
 refused-numbered (no-room f d w l) = (omega arith, omega arith)

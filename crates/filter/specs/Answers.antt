@@ -7,7 +7,7 @@ use Rattle.program.specs.Readings.{Test, Reading, weight}
 use Rattle.program.specs.Records.{weightLimit}
 use Rattle.program.specs.Layout.{recordSize}
 use Rattle.token.specs.Texts.{textLimit, Allowed, Every}
-use Rattle.token.specs.Tokens.{Word, Token, bang, word, Placed, placed, Lexes, Unclosed}
+use Rattle.token.specs.Tokens.{Word, Token, open′, bang, word, Placed, placed, Lexes, Unclosed}
 use Rattle.filter.specs.Words.{name, Says}
 use Rattle.filter.specs.Grammar.{Operand, expression, Reads}
 use Rattle.filter.specs.Levels.{levelLimit, openAt, Open}
@@ -20,7 +20,7 @@ pub record Alive (ts : List Token) : Type 0 where
   pub reading : Reading
   pub reads : Reads expression (ts ++ more) reading
 
--- some continuation is derived with at most that many levels open at once: no token so far has 4, 5 or 6
+-- some continuation is derived with at most that many levels open at once: no token so far has 4, 5 or 6 (Refusals `leads-exactly`)
 pub record Leads (limit : ℕ) (ts : List Token) : Type 0 where
   pub more : List Token
   pub reading : Reading
@@ -37,6 +37,20 @@ pub record Stands (ts : List Token) (t : Token) : Type 0 where
   pub begins : Alive (before ++ (bang ∷ []))
   pub says : Says named (name test)
   pub operand : Operand t bytes
+
+-- a `(` or a `!`
+pub data Opener : Token → Type 0 where
+  a-group : Opener open′
+  a-bang : Opener bang
+
+-- a token after these has a number, where at most that many levels may be open
+pub data Has (limit : ℕ) (ts : List Token) (t : Token) : ℕ → Type 0 where
+  -- 4: no continuation allows it, and it is no operand
+  bad-token : (Alive (ts ++ (t ∷ [])) → ⊥) → (Stands ts t → ⊥) → Has limit ts t 4
+  -- 5: operand breaks its test's rule
+  bad-operand : (s : Stands ts t) → ((x : Test) → StandsFor (s .test) (s .bytes) x → ⊥) → Has limit ts t 5
+  -- 6: `(` or `!` opening a level too many
+  too-deep : Opener t → Open (ts ++ (t ∷ [])) (suc limit) → Has limit ts t 6
 
 -- tokens without their places
 unfoldable pub bare : List Placed → List Token
@@ -77,17 +91,11 @@ pub data Answers (text : List ℕ) (room : ℕ) : Outcome → Type 0 where
       → Answers text room (refused 2 p)
   -- 3: quote not closed, at its opening
   unclosed : {p : ℕ} → Fine text → Unclosed text p → Answers text room (refused 3 p)
-  -- 4: a token that no continuation allows, and that is no operand; or the end of the text
-  bad-token : {ts : List Token} {t : Token} {p : ℕ} → Fine text → Reaches text ts t p → (Alive (ts ++ (t ∷ [])) → ⊥) → (Stands ts t → ⊥)
-      → Answers text room (refused 4 p)
+  -- 4, 5 and 6: for the first token that has one
+  bad-first : {ts : List Token} {t : Token} {n p : ℕ} → Fine text → Reaches text ts t p → Has levelLimit ts t n → Answers text room (refused n p)
+  -- 4: the end of the text
   bad-end : (ts : List Placed) → Fine text → Lexes 0 text ts → Leads levelLimit (bare ts) → ((r : Reading) → Reads expression (bare ts) r → ⊥)
       → Answers text room (refused 4 (length text))
-  -- 5: operand breaks its test's rule
-  bad-operand : {ts : List Token} {t : Token} {p : ℕ} → Fine text → Reaches text ts t p → (s : Stands ts t) → ((x : Test) → StandsFor (s .test) (s .bytes) x → ⊥)
-      → Answers text room (refused 5 p)
-  -- 6: `(` or `!` opening level 33
-  too-deep : {ts : List Token} {t : Token} {p : ℕ} → Fine text → Reaches text ts t p → Open (ts ++ (t ∷ [])) (suc levelLimit)
-      → Answers text room (refused 6 p)
   -- 7: weight over 512
   too-heavy : {r : Reading} → Fine text → Derives text r → weightLimit < weight r → Answers text room (refused 7 0)
   -- 8: program buffer under 16 x weight bytes
