@@ -28,7 +28,7 @@ use Rattle.judge.specs.Judging.{judgedBy, saidOf}
 use Rattle.judge.specs.Functions.{judgement, ourJudge}
 use Rattle.claims.specs.Functions.{reported}
 use Rattle.claims.specs.Ours.{ourCompiler}
-use Rattle.claims.specs.DemandThree.{Derived}
+use Rattle.filter.specs.Answers.{Derived}
 use Rattle.claims.specs.DemandTwo.{OnMessage}
 use Rattle.claims.proofs.DemandThree.{judges}
 

@@ -31,7 +31,7 @@ use Rattle.claims.specs.Walk.{Walks}
 use Rattle.claims.specs.DemandTwo.{OnMessage, DemandTwo}
 use Rattle.claims.specs.DemandThree.{Compiles, JudgedSo, DemandThree}
 use Rattle.claims.specs.Wrong.{refusesAll, oneProgram, alwaysKeeps, writesNothing, stepsMadeUp, readsAll}
-use Rattle.claims.proofs.DemandThree.{demand-three, derived, compiled-compiles}
+use Rattle.claims.proofs.DemandThree.{demand-three, compiled-compiles}
 
 -- ---- samples: `-loops`, `! -loops` and `-bogon-asn` on R
 
@@ -80,11 +80,11 @@ module _ {Verdict : Message → Reading → Type 0} {text : List ℕ} {r : Readi
   -- into the program of its reading
   records-are : (compiler : Compiler) (judge : Judge) → DemandThree compiler judge
       → (compiler text buffer .value ≡ length (programOf r)) × (compiler text buffer .buffer ≡ programOf r ++ drop (length (programOf r)) buffer)
-  records-are compiler judge d = d text buffer [] [] none .records (number-is compiler judge d) (derived (t .derives))
+  records-are compiler judge d = d text buffer [] [] none .records (number-is compiler judge d) (t .derives .derived)
 
   -- and what is claimed of judging R with it
   on-R : (judge : Judge) (runner : Runner) → DemandTwo ourCompiler judge runner → (lines : List ℕ) → OnMessage r messageR lines (judge (reported (ourCompiler text buffer)) recordR lines none)
-  on-R judge runner d lines = d .on-message {buffer = buffer} (number-is ourCompiler ourJudge demand-three) (derived (t .derives)) record-represents lines none uncounted
+  on-R judge runner d lines = d .on-message {buffer = buffer} (number-is ourCompiler ourJudge demand-three) (t .derives .derived) record-represents lines none uncounted
 
 -- ---- compilers
 
@@ -129,7 +129,7 @@ module _ (count : ℕ) (judge : Judge) (d : DemandThree ourCompiler (stepsMadeUp
       → JudgedSo r messageR room none (ourCompiler text buffer) (stepsMadeUp count judge (reported (ourCompiler text buffer)) recordR room none)
   so {text = text} t few =
       let e : ourCompiler text buffer .number ≡ 0 = number-is t few ourCompiler (stepsMadeUp count judge) d in
-      rw (eq-eqb _ _ e) at (d text buffer recordR room none .judged e (derived (t .derives)) record-represents)
+      rw (eq-eqb _ _ e) at (d text buffer recordR room none .judged e (t .derives .derived) record-represents)
 
   pub steps-made-up : ⊥
   steps-made-up =

@@ -18,20 +18,20 @@ use Rattle.token.specs.Lexer as lexer
 use Rattle.token.specs.Next.{allowedFront}
 use Rattle.token.proofs.AllowedBytes.{Forbidden, forbidden-once, forbidden-none, front-most, allowed-front, front-forbidden}
 use Rattle.token.proofs.Lexing.{read-tokens, read-unclosed, lexes-once}
-use Rattle.filter.specs.Answers.{bare, Fine, Derives, Outcome, refused, Answers}
+use Rattle.filter.specs.Answers.{bare, Fine, DerivedWithin, Outcome, refused, Answers}
 use Rattle.filter.specs.Answers as words
 use Rattle.filter.specs.Reader.{Answer, read}
 use Rattle.filter.specs.Reader as reader
 use Rattle.filter.specs.Answering.{fitted, judged, lexed, answer}
 use Rattle.filter.proofs.Sound.{sound}
 use Rattle.filter.proofs.Refusals as refusals
-use Rattle.filter.proofs.Places.{refused-answers, read-derives, Refused, answers-refused, derives-read}
+use Rattle.filter.proofs.Places.{refused-answers, read-derived, Refused, answers-refused, derived-read}
 
 -- ---- the words give the computed answer
 
 module _ (text : List ℕ) (room : ℕ) where
   -- 7 and 8, or compiled
-  fitted-answers : (r : Reading) → Fine text → Derives text r → Answers text room (fitted room r)
+  fitted-answers : (r : Reading) → Fine text → DerivedWithin text r → Answers text room (fitted room r)
   fitted-answers r f d = by-weight (decLe (weight r) weightLimit) (decLe (recordSize * weight r) room)
     where
       by-weight : Dec (weight r ≤ weightLimit) → Dec (recordSize * weight r ≤ room) → Answers text room (fitted room r)
@@ -42,7 +42,7 @@ module _ (text : List ℕ) (room : ℕ) where
 
   -- 4 to 6, or a reading
   judged-answers : (ps : List Placed) → Fine text → Lexes 0 text ps → (a : Answer) → read levelLimit (bare ps) ≡ a → Answers text room (judged (length text) ps room a)
-  judged-answers ps f l (reader.ok r) e = let (d, w) = sound levelLimit (bare ps) e in fitted-answers r f (read-derives ps l d w)
+  judged-answers ps f l (reader.ok r) e = let (d, w) = sound levelLimit (bare ps) e in fitted-answers r f (read-derived ps l d w)
   judged-answers ps f l (reader.refused w us) e = refused-answers ps f l (rw e at (refusals.judged levelLimit (bare ps)))
 
   -- 3, or tokens
@@ -80,8 +80,10 @@ module _ (text : List ℕ) (room : ℕ) where
   tokens-answer ps f d e = fine-answer f ∙ (ap (lexed (length text) room) (read-tokens text ps .1 d) ∙ ap (judged (length text) ps room) e)
 
   -- a text that is derived
-  derived-answer : {r : Reading} → Fine text → (d : Derives text r) → answer text room ≡ fitted room r
-  derived-answer f d = tokens-answer (d .tokens) f (d .lexed) (derives-read text room (d .tokens) (λ qs l. lexes-once l (d .lexed)) d)
+  derived-answer : {r : Reading} → Fine text → DerivedWithin text r → answer text room ≡ fitted room r
+  derived-answer f d =
+      let x = d .derived in
+      tokens-answer (x .tokens) f (x .lexed) (derived-read text room (x .tokens) (λ qs l. lexes-once l (x .lexed)) d)
 
   -- 4 to 6
   refused-answer : {n p : ℕ} (ps : List Placed) → Fine text → Lexes 0 text ps → 4 ≤ n → n ≤ 6 → Answers text room (refused n p) → answer text room ≡ refused n p

@@ -9,7 +9,7 @@ use Rattle.program.specs.Readings.{Reading}
 use Rattle.token.specs.Tokens.{Token, Placed, placed, Lexes}
 use Rattle.filter.specs.Grammar.{expression, Reads}
 use Rattle.filter.specs.Levels.{levelLimit, openAt}
-use Rattle.filter.specs.Answers.{Leads, Has, bare, Fine, Reaches, Derives, Answers}
+use Rattle.filter.specs.Answers.{Leads, Has, bare, Fine, Reaches, DerivedWithin, Answers}
 use Rattle.filter.specs.Answers as answers
 use Rattle.filter.specs.Answering.{numberOf, refusalOf, startOf, placeOf}
 use Rattle.filter.specs.Reader.{Why, bad, ok, refused, read}
@@ -96,8 +96,8 @@ module _ {text : List ℕ} {room : ℕ} (ps : List Placed) (fine : Fine text) (l
   refused-answers j = judged-answers refl j
 
 -- a reading of the text's tokens is derived for the text
-pub read-derives : {text : List ℕ} {r : Reading} (ps : List Placed) → Lexes 0 text ps → (d : Reads expression (bare ps) r) → ((n : ℕ) → openAt d n ≤ levelLimit) → Derives text r
-read-derives ps l d w = record { tokens = ps; lexed = l; reads = d; within = w }
+pub read-derived : {text : List ℕ} {r : Reading} (ps : List Placed) → Lexes 0 text ps → (d : Reads expression (bare ps) r) → ((n : ℕ) → openAt d n ≤ levelLimit) → DerivedWithin text r
+read-derived ps l d w = record { derived = record { tokens = ps; lexed = l; reads = d }; within = w }
 
 -- the reader refuses the tokens ps, and that is this number and place; e is the end's place
 pub record Refused (e : ℕ) (ps : List Placed) (n p : ℕ) : Type 0 where
@@ -149,8 +149,8 @@ module _ (text : List ℕ) (room : ℕ) (ps : List Placed) (once : (qs : List Pl
   answers-refused i j (answers.no-room f d w l) = absurd (omega arith)
 
   -- a text that is derived within the limit is read so
-  pub derives-read : {r : Reading} → Derives text r → read levelLimit (bare ps) ≡ ok r
-  derives-read {r} d = by-tokens (once (d .tokens) (d .lexed))
+  pub derived-read : {r : Reading} → DerivedWithin text r → read levelLimit (bare ps) ≡ ok r
+  derived-read {r} d = by-tokens (once (d .derived .tokens) (d .derived .lexed))
     where
-      by-tokens : d .tokens ≡ ps → read levelLimit (bare ps) ≡ ok r
-      by-tokens e = rw (← e) (complete levelLimit (d .reads) (d .within))
+      by-tokens : d .derived .tokens ≡ ps → read levelLimit (bare ps) ≡ ok r
+      by-tokens e = rw (← e) (complete levelLimit (d .derived .reads) (d .within))

@@ -13,7 +13,7 @@ use Rattle.token.specs.Texts.{textLimit, Blank, space, tab, lineFeed, Allowed, 
 use Rattle.token.specs.Tokens.{Token, open′, close, bang, word, quoted, Mark, opening, closing, banging, Letter, Stops, before, Placed, placed, Lexes, nothing, blanks, marks, words, quotes}
 use Rattle.filter.specs.Grammar.{expression, Reads}
 use Rattle.filter.specs.Levels.{levelLimit, openAt}
-use Rattle.filter.specs.Answers.{bare, Derives, compiled, Answers, compiles}
+use Rattle.filter.specs.Answers.{bare, DerivedWithin, compiled, Answers, compiles}
 use Rattle.filter.proofs.Counts.{levels, levels-open}
 use Rattle.operand.proofs.FrontReads.{run-append, run-map}
 
@@ -140,8 +140,8 @@ pub spelled-compiles : {ts : List Token} {r : Reading} (d : Reads expression ts 
     → length (spell ts) ≤ textLimit → weight r ≤ weightLimit → Answers (spell ts) (recordSize * weightLimit) (compiled r)
 spelled-compiles {ts} {r} d l p s w = compiles (record { short = s; allowed = spell-allowed p }) (by-tokens (bare-positioned 0 ts)) w (omega arith)
   where
-    with-tokens : (e : Reads expression (bare (positioned 0 ts)) r) × ((n : ℕ) → openAt e n ≤ levelLimit) → Derives (spell ts) r
-    with-tokens (e, k) = record { tokens = positioned 0 ts; lexed = spell-lexes p 0; reads = e; within = k }
+    with-tokens : (e : Reads expression (bare (positioned 0 ts)) r) × ((n : ℕ) → openAt e n ≤ levelLimit) → DerivedWithin (spell ts) r
+    with-tokens (e, k) = record { derived = record { tokens = positioned 0 ts; lexed = spell-lexes p 0; reads = e }; within = k }
 
-    by-tokens : bare (positioned 0 ts) ≡ ts → Derives (spell ts) r
+    by-tokens : bare (positioned 0 ts) ≡ ts → DerivedWithin (spell ts) r
     by-tokens e = with-tokens (rw e (d, levels-open d levelLimit .0 l))

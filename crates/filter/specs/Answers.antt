@@ -70,12 +70,16 @@ pub record Reaches (text : List ℕ) (before : List Token) (t : Token) (place : 
   pub tokens : bare front ≡ before
   pub leads : Leads levelLimit before
 
--- the grammar derives a text, with this reading, and its nesting is as allowed
-pub record Derives (text : List ℕ) (r : Reading) : Type 0 where
+-- the grammar derives a text, with this reading
+pub record Derived (text : List ℕ) (r : Reading) : Type 0 where
   pub tokens : List Placed
   pub lexed : Lexes 0 text tokens
   pub reads : Reads expression (bare tokens) r
-  pub within : (n : ℕ) → openAt reads n ≤ levelLimit
+
+-- the same, and its nesting is as allowed
+pub record DerivedWithin (text : List ℕ) (r : Reading) : Type 0 where
+  pub derived : Derived text r
+  pub within : (n : ℕ) → openAt (derived .reads) n ≤ levelLimit
 
 pub data Outcome : Type 0 where
   compiled : Reading → Outcome
@@ -97,7 +101,7 @@ pub data Answers (text : List ℕ) (room : ℕ) : Outcome → Type 0 where
   bad-end : (ts : List Placed) → Fine text → Lexes 0 text ts → Leads levelLimit (bare ts) → ((r : Reading) → Reads expression (bare ts) r → ⊥)
       → Answers text room (refused 4 (length text))
   -- 7: weight over 512
-  too-heavy : {r : Reading} → Fine text → Derives text r → weightLimit < weight r → Answers text room (refused 7 0)
+  too-heavy : {r : Reading} → Fine text → DerivedWithin text r → weightLimit < weight r → Answers text room (refused 7 0)
   -- 8: program buffer under 16 x weight bytes
-  no-room : {r : Reading} → Fine text → Derives text r → weight r ≤ weightLimit → room < recordSize * weight r → Answers text room (refused 8 0)
-  compiles : {r : Reading} → Fine text → Derives text r → weight r ≤ weightLimit → recordSize * weight r ≤ room → Answers text room (compiled r)
+  no-room : {r : Reading} → Fine text → DerivedWithin text r → weight r ≤ weightLimit → room < recordSize * weight r → Answers text room (refused 8 0)
+  compiles : {r : Reading} → Fine text → DerivedWithin text r → weight r ≤ weightLimit → recordSize * weight r ≤ room → Answers text room (compiled r)
