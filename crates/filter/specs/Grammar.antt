@@ -11,6 +11,7 @@ pub data Operand : Token → Word → Type 0 where
   a-word : {v : Word} → Operand (word v) v
   a-quoted : {v : Word} → Operand (quoted v) v
 
+-- what the grammar derives
 pub data Part : Type 0 where
   expression conjunction factor : Part
 
