@@ -26,7 +26,7 @@ use Rattle.truth.proofs.Machines.{machine-truth}
 use Rattle.truth.proofs.Verdicts.{keeps-exactly, drops-exactly}
 use Rattle.token.specs.Tokens.{Placed, Lexes}
 use Rattle.token.proofs.Lexing.{lexes-once, unclosed-none}
-use Rattle.token.proofs.AllowedBytes.{every-place}
+use Rattle.token.proofs.AllowedBytes.{forbidden-none}
 use Rattle.filter.specs.Answers.{Fine, Derived, Outcome, compiled, refused, Answers}
 use Rattle.filter.specs.Answers as words
 use Rattle.filter.specs.Answering.{answer, saidOf}
@@ -132,7 +132,7 @@ module _ (text buffer : List ℕ) where
 refused-only : {text : List ℕ} {room : ℕ} (o : Outcome) → Answers text room o → Fine text → {tokens : List Placed} → Lexes 0 text tokens → ((r : Reading) → Derived text r → ⊥)
     → FirstRefused text (saidOf o .0) (saidOf o .1)
 refused-only o (words.too-long h) f l n = absurd (omega (arith, f .short))
-refused-only o (words.forbidden p h i j k) f l n = absurd (k (every-place (f .allowed) p i))
+refused-only o (words.forbidden h x) f l n = absurd (forbidden-none x (f .allowed))
 refused-only o (words.unclosed g u) f l n = absurd (unclosed-none u l)
 refused-only {room = room} o (words.bad-first g x h) f l n = first-refused {room = room} (has-numbered h .0) (has-numbered h .1) (words.bad-first g x h)
 refused-only {room = room} o (words.bad-end ts g k w h) f l n = first-refused {room = room} (omega arith) (omega arith) (words.bad-end ts g k w h)

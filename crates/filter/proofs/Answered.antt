@@ -10,13 +10,13 @@ use borrow.Author.Tests.{lt-ltb, le-ltb}
 use Rattle.program.specs.Readings.{Reading, weight}
 use Rattle.program.specs.Records.{weightLimit}
 use Rattle.program.specs.Layout.{recordSize}
-use Rattle.token.specs.Texts.{textLimit}
+use Rattle.token.specs.Texts.{textLimit, Forbidden}
 use Rattle.filter.specs.Levels.{levelLimit}
 use Rattle.token.specs.Tokens.{Placed, Lexes}
 use Rattle.token.specs.Lexer.{Lexed, tokens, unclosed}
 use Rattle.token.specs.Lexer as lexer
 use Rattle.token.specs.Next.{allowedFront}
-use Rattle.token.proofs.AllowedBytes.{Forbidden, forbidden-once, forbidden-none, front-most, allowed-front, front-forbidden}
+use Rattle.token.proofs.AllowedBytes.{forbidden-once, forbidden-none, front-most, allowed-front, front-forbidden}
 use Rattle.token.proofs.Lexing.{read-tokens, read-unclosed, lexes-once}
 use Rattle.filter.specs.Answers.{bare, Fine, DerivedWithin, Outcome, refused, Answers}
 use Rattle.filter.specs.Answers as words
@@ -58,9 +58,8 @@ module _ (text : List ℕ) (room : ℕ) where
       by-size : Dec (length text ≤ textLimit) → Dec (length text ≤ allowedFront text) → Answers text room (answer text room)
       by-size (no h) k = rw (lt-ltb textLimit (length text) (lt-of-not-le h)) (words.too-long (lt-of-not-le h))
       by-size (yes h) (no k) =
-          let x : Forbidden text (allowedFront text) = front-forbidden text .0 (lt-of-not-le k) in
           rw (le-ltb textLimit (length text) h, lt-ltb (allowedFront text) (length text) (lt-of-not-le k))
-          (words.forbidden (allowedFront text) h (x .within) (x .earlier) (x .here))
+          (words.forbidden h (front-forbidden text .0 (lt-of-not-le k)))
       by-size (yes h) (yes k) =
           let f : Fine text = record { short = h; allowed = allowed-front text .0 (omega (arith, front-most text)) } in
           rw (le-ltb textLimit (length text) h, le-ltb (allowedFront text) (length text) k) (lexed-answers f (lexer.read text) refl)
@@ -104,10 +103,7 @@ module _ (text : List ℕ) (room : ℕ) where
   pub only-answer : {o : Outcome} → Answers text room o → answer text room ≡ o
   unfolding answer
   only-answer (words.too-long h) = rw (lt-ltb textLimit (length text) h)
-  only-answer (words.forbidden p h i j k) =
-      let x : Forbidden text p = record { within = i; earlier = j; here = k } in
-      let e : allowedFront text ≡ p = first-forbidden x in
-      rw (le-ltb textLimit (length text) h, e, lt-ltb p (length text) i)
+  only-answer (words.forbidden {p} h x) = rw (le-ltb textLimit (length text) h, first-forbidden x, lt-ltb p (length text) (x .within))
   only-answer (words.unclosed {p} f u) = fine-answer f ∙ ap (lexed (length text) room) (read-unclosed text p .1 u)
   only-answer (words.bad-first f x h) = refused-answer _ f (x .lexed) (refusals.has-numbered h .0) (refusals.has-numbered h .1) (words.bad-first f x h)
   only-answer (words.bad-end ts f l w n) = refused-answer ts f l (omega arith) (omega arith) (words.bad-end ts f l w n)

@@ -129,7 +129,7 @@ module _ (text : List ℕ) (room : ℕ) (ps : List Placed) (once : (qs : List Pl
   pub answers-refused : {n p : ℕ} → 4 ≤ n → n ≤ 6 → Answers text room (answers.refused n p) → Refused (length text) ps n p
   unfolding numberOf
   answers-refused i j (answers.too-long l) = absurd (omega arith)
-  answers-refused i j (answers.forbidden p l m f g) = absurd (omega arith)
+  answers-refused i j (answers.forbidden l x) = absurd (omega arith)
   answers-refused i j (answers.unclosed f u) = absurd (omega arith)
   answers-refused {n} {p} i j (answers.bad-first f x h) = by-why (has-why h)
     where

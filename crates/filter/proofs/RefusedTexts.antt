@@ -25,7 +25,7 @@ first-token x f = record { reaches = x; leads = λ xs ys e. earlier xs ys (rw e 
 -- 4, 5 and 6 are given for the first token that has one, or for the end
 pub first-refused : {text : List ℕ} {room n p : ℕ} → 4 ≤ n → n ≤ 6 → Answers text room (refused n p) → FirstRefused text n p
 first-refused i j (too-long l) = absurd (omega arith)
-first-refused i j (forbidden p l m f g) = absurd (omega arith)
+first-refused i j (forbidden l x) = absurd (omega arith)
 first-refused i j (unclosed f u) = absurd (omega arith)
 first-refused i j (bad-first f x h) = a-token (first-token x (has-ends h)) h
 first-refused i j (bad-end ts f l w n) = the-end (record { tokens = ts; lexed = l; leads = λ xs ys e. earlier xs ys (rw e at w); unread = n })
@@ -35,7 +35,7 @@ first-refused i j (no-room f d w l) = absurd (omega arith)
 -- the numbers of refusals are 1 to 8
 pub refused-numbered : {text : List ℕ} {room n p : ℕ} → Answers text room (refused n p) → (1 ≤ n) × (n ≤ 8)
 refused-numbered (too-long l) = (omega arith, omega arith)
-refused-numbered (forbidden p l m f g) = (omega arith, omega arith)
+refused-numbered (forbidden l x) = (omega arith, omega arith)
 refused-numbered (unclosed f u) = (omega arith, omega arith)
 refused-numbered (bad-first f x h) = (omega (arith, has-numbered h), omega (arith, has-numbered h))
 refused-numbered (bad-end ts f l w n) = (omega arith, omega arith)

@@ -2,11 +2,11 @@
 use Prim.Native.Nat.{ℕ, suc, _+_, _*_, _≤_, _<_}
 use mathlib.Core.Path.{_≡_}
 use mathlib.Core.List.{List, [], _∷_, _++_}
-use lib.ListN.{length, getD}
+use lib.ListN.{length}
 use Rattle.program.specs.Readings.{Test, Reading, weight}
 use Rattle.program.specs.Records.{weightLimit}
 use Rattle.program.specs.Layout.{recordSize}
-use Rattle.token.specs.Texts.{textLimit, Allowed, Every}
+use Rattle.token.specs.Texts.{textLimit, Allowed, Every, Forbidden}
 use Rattle.token.specs.Tokens.{Word, Token, open′, bang, word, Placed, placed, Lexes, Unclosed}
 use Rattle.filter.specs.Words.{name, Says}
 use Rattle.filter.specs.Grammar.{Operand, expression, Reads}
@@ -81,6 +81,7 @@ pub record DerivedWithin (text : List ℕ) (r : Reading) : Type 0 where
   pub derived : Derived text r
   pub within : (n : ℕ) → openAt (derived .reads) n ≤ levelLimit
 
+-- a text compiles to the program of a reading, or is refused
 pub data Outcome : Type 0 where
   compiled : Reading → Outcome
   -- a number and a place
@@ -91,8 +92,7 @@ pub data Answers (text : List ℕ) (room : ℕ) : Outcome → Type 0 where
   -- 1: text over 4,096 bytes
   too-long : textLimit < length text → Answers text room (refused 1 0)
   -- 2: a forbidden byte, at the first one's place
-  forbidden : (p : ℕ) → length text ≤ textLimit → p < length text → ((i : ℕ) → i < p → Allowed (getD text i 0)) → (Allowed (getD text p 0) → ⊥)
-      → Answers text room (refused 2 p)
+  forbidden : {p : ℕ} → length text ≤ textLimit → Forbidden text p → Answers text room (refused 2 p)
   -- 3: quote not closed, at its opening
   unclosed : {p : ℕ} → Fine text → Unclosed text p → Answers text room (refused 3 p)
   -- 4, 5 and 6: for the first token that has one
