@@ -19,7 +19,7 @@ use Rattle.filter.proofs.Located.{Located, located}
 use Rattle.filter.proofs.Leveled.{walk-within}
 
 -- the levels that a derivation counts after n tokens are those open in the reader
-pub count-level : (L : ℕ) (ts : List Token) (n : ℕ) (s : State) {r : Reading} → walk L start (take n ts) ≡ came s → (d : Reads expression ts r)
+count-level : (L : ℕ) (ts : List Token) (n : ℕ) (s : State) {r : Reading} → walk L start (take n ts) ≡ came s → (d : Reads expression ts r)
     → n ≤ length ts → openAt d n ≡ level s
 unfolding depth
 count-level L ts n s e d i = by-place (located M d whole n (omega arith) i)

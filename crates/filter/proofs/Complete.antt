@@ -18,7 +18,7 @@ use Rattle.operand.proofs.Meanings.{meaning-complete}
 use Rattle.filter.proofs.Roles.{said-role}
 
 -- every part is an expression
-unfoldable pub raised : {p : Part} {ts : List Token} {r : Reading} → Reads p ts r → Reads expression ts r
+raised : {p : Part} {ts : List Token} {r : Reading} → Reads p ts r → Reads expression ts r
 raised {p = expression} d = d
 raised {p = conjunction} d = lone d
 raised {p = factor} d = lone (single d)

@@ -34,7 +34,7 @@ unfolding placeOf
 place-left e ps qs = rw (length-bare qs, length-append ps qs, drop-at ps qs (length ps + length qs - length qs) (omega arith))
 
 -- a token's place is found from the tokens that are left with it
-pub place-token : (e : ℕ) (ps : List Placed) (p : ℕ) (t : Token) (qs : List Placed) → placeOf e (ps ++ (placed p t ∷ qs)) (t ∷ bare qs) ≡ p
+place-token : (e : ℕ) (ps : List Placed) (p : ℕ) (t : Token) (qs : List Placed) → placeOf e (ps ++ (placed p t ∷ qs)) (t ∷ bare qs) ≡ p
 unfolding bare startOf
 place-token e ps p t qs = place-left e ps (placed p t ∷ qs)
 

@@ -34,20 +34,16 @@ earlier {L} ts us l = by-parts (rw (← (append-assoc ts us (l .more))) (l .read
 
 -- ---- 4, 5 and 6 of a token
 
--- a level too many is open after no tokens that are walked within the limit
-pub not-deeper : (L : ℕ) (ts : List Token) (s : State) → walk L start ts ≡ came s → Open ts (suc L) → ⊥
-unfolding level depth
-not-deeper L ts s e o =
-    let i : level s ≤ L = walk-within L start ts s (omega arith) e in
-    let j : suc L ≡ level s = open-one o (opened L ts s e) in
-    omega arith
-
 -- tokens after which a level too many is open don't lead on
-pub deep-ends : {L : ℕ} {ts : List Token} → Open ts (suc L) → Leads L ts → ⊥
+deep-ends : {L : ℕ} {ts : List Token} → Open ts (suc L) → Leads L ts → ⊥
+unfolding level depth
 deep-ends {L} {ts} o l = by-walk (leads-reached L ts l)
   where
     by-walk : (s : State) × (walk L start ts ≡ came s) → ⊥
-    by-walk (s, e) = not-deeper L ts s e o
+    by-walk (s, e) =
+        let i : level s ≤ L = walk-within L start ts s (omega arith) e in
+        let j : suc L ≡ level s = open-one o (opened L ts s e) in
+        omega arith
 
 -- tokens don't lead on with one that has a number
 pub has-ends : {L : ℕ} {ts : List Token} {t : Token} {n : ℕ} → Has L ts t n → Leads L (ts ++ (t ∷ [])) → ⊥
@@ -67,6 +63,7 @@ has-once (too-deep x o) (bad-token b r) = absurd (b (open-alive o))
 has-once (too-deep x o) (bad-operand r g) = absurd (broken-dead r g (open-alive o))
 has-once (too-deep x o) (too-deep y p) = refl
 
+-- one of three
 pub has-numbered : {L : ℕ} {ts : List Token} {t : Token} {n : ℕ} → Has L ts t n → (4 ≤ n) × (n ≤ 6)
 has-numbered (bad-token a s) = (omega arith, omega arith)
 has-numbered (bad-operand s f) = (omega arith, omega arith)

@@ -90,7 +90,7 @@ finish-at ts (operand k h) a = tt
 finish-at ts (have r h) a = end-at (outer r h) (outer-at a)
 
 -- no tokens lead to the start
-pub at-start : At [] start
+at-start : At [] start
 at-start = at-head (at-first at-whole)
 
 -- what a word and an operand lead to
