@@ -1,12 +1,10 @@
 -- Demand 1 holds of our compiler and our judge. Assumes nothing.
 use Prim.Native.Nat.{ℕ, _≤_}
 use native.Mathlib.Omega.{arith}
-use mathlib.Core.Path.{_≡_, refl, sym, ap, _∙_}
+use mathlib.Core.Path.{_≡_, refl}
 use mathlib.Core.List.{List}
-use mathlib.Core.Logic.{_↔_}
 use mathlib.Core.Option.{Option, some, none}
 use lib.ListN.{length}
-use Rattle.octets.specs.Numbers.{Octets}
 use Rattle.filter.specs.Answers as texts
 use Rattle.filter.specs.Answering as compiling
 use Rattle.filter.proofs.Answered.{answer-given, only-answer}
@@ -22,7 +20,7 @@ use Rattle.judge.proofs.Counting.{roomy as never-short}
 use Rattle.run.proofs.Damaged.{one-refused}
 use Rattle.claims.specs.Ours as ours
 use Rattle.claims.specs.Ours.{ourCompiler}
-use Rattle.claims.specs.DemandOne.{OfText, JudgingNumber, verdict, refusal, OfRecord, DemandOne}
+use Rattle.claims.specs.DemandOne.{OfText, verdict, refusal, OfRecord, DemandOne}
 
 -- ---- texts
 

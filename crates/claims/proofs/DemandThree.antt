@@ -6,7 +6,7 @@ use mathlib.Core.Bool.{Bool, true, false}
 use mathlib.Core.List.{List, _++_}
 use mathlib.Core.Logic.{_↔_}
 use mathlib.Core.Option.{Option}
-use lib.ListN.{length, take, drop}
+use lib.ListN.{length, drop}
 use lib.Seq.{take-at}
 use borrow.Author.Tests.{le-ltb, eq-eqb}
 use Rattle.message.specs.Message.{Message}
@@ -16,27 +16,25 @@ use Rattle.program.specs.Readings.{Reading, weight, verdict, steps}
 use Rattle.program.specs.Records.{weightLimit}
 use Rattle.program.specs.Layout.{recordSize}
 use Rattle.program.specs.Compiling.{records, programOf}
-use Rattle.program.specs.Machine.{machine}
 use Rattle.program.proofs.LayoutLaws.{encodeAll-length}
 use Rattle.program.proofs.MachineLaws.{length-records, steps-least}
 use Rattle.program.proofs.ReadingValid.{PossibleReading, records-possible}
 use Rattle.truth.specs.Means.{isTrue}
-use Rattle.truth.specs.Records.{recordTruth}
 use Rattle.truth.specs.Verdict.{Keeps, Drops}
 use Rattle.truth.proofs.Addresses.{represented-addressed, reading-addressed}
 use Rattle.truth.proofs.Machines.{machine-truth}
 use Rattle.truth.proofs.Verdicts.{keeps-exactly, drops-exactly}
 use Rattle.token.specs.Tokens.{Placed, Lexes}
 use Rattle.token.proofs.Lexing.{lexes-once, unclosed-none}
-use Rattle.token.proofs.AllowedBytes.{every-place}
-use Rattle.filter.specs.Grammar.{expression, Reads}
-use Rattle.filter.specs.Answers.{bare, Fine, Derives, Outcome, compiled, refused, Answers}
+use Rattle.token.proofs.AllowedBytes.{forbidden-none}
+use Rattle.filter.specs.Answers.{Fine, Derived, Outcome, compiled, refused, Answers}
 use Rattle.filter.specs.Answers as words
 use Rattle.filter.specs.Answering.{answer, saidOf}
 use Rattle.filter.specs.Refused.{FirstRefused}
 use Rattle.filter.proofs.Complete as complete
 use Rattle.filter.proofs.CompiledValid.{reads-possible}
 use Rattle.filter.proofs.Answered.{answer-given, only-answer}
+use Rattle.filter.proofs.Refusals.{has-numbered}
 use Rattle.filter.proofs.RefusedTexts.{first-refused, refused-numbered}
 use Rattle.judge.specs.declared.Tally.{Tally}
 use Rattle.judge.specs.Tallies.{FullTally}
@@ -45,7 +43,7 @@ use Rattle.judge.specs.Functions.{Judge, ourJudge}
 use Rattle.judge.proofs.Readings.{reading-judged}
 use Rattle.claims.specs.Functions.{reported, judgedWith}
 use Rattle.claims.specs.Ours.{ourCompiler}
-use Rattle.claims.specs.DemandThree.{Compiles, Derived, JudgedSo, DemandThreeAt, DemandThree}
+use Rattle.claims.specs.DemandThree.{Compiles, JudgedSo, DemandThree}
 
 -- a text has one reading
 one-reading : {text : List ℕ} {r s : Reading} → Derived text r → Derived text s → r ≡ s
@@ -53,10 +51,6 @@ one-reading {r = r} {s} d e = by-tokens (lexes-once (d .lexed) (e .lexed))
   where
     by-tokens : d .tokens ≡ e .tokens → r ≡ s
     by-tokens p = complete.one-reading (d .reads) (rw p (e .reads))
-
--- what is derived with allowed nesting is derived
-pub derived : {text : List ℕ} {r : Reading} → Derives text r → Derived text r
-derived d = record { tokens = d .tokens; lexed = d .lexed; reads = d .reads }
 
 -- an answer of 0 is a program
 compiled-only : {text : List ℕ} {room : ℕ} (o : Outcome) → Answers text room o → saidOf o .0 ≡ 0 → (r : Reading) × (o ≡ compiled r)
@@ -69,7 +63,7 @@ compiled-compiles (words.compiles {r} f d w l) = record { fine = f; reading = r;
 
 -- the reading is the text's
 compiled-reading : {text : List ℕ} {room : ℕ} {r s : Reading} → Answers text room (compiled r) → Derived text s → (r ≡ s) × (weight r ≤ weightLimit)
-compiled-reading (words.compiles f d w l) e = (one-reading (derived d) e, w)
+compiled-reading (words.compiles f d w l) e = (one-reading (d .derived) e, w)
 
 -- a program's bytes
 program-length : (r : Reading) → length (programOf r) ≡ recordSize * weight r
@@ -138,15 +132,13 @@ module _ (text buffer : List ℕ) where
 refused-only : {text : List ℕ} {room : ℕ} (o : Outcome) → Answers text room o → Fine text → {tokens : List Placed} → Lexes 0 text tokens → ((r : Reading) → Derived text r → ⊥)
     → FirstRefused text (saidOf o .0) (saidOf o .1)
 refused-only o (words.too-long h) f l n = absurd (omega (arith, f .short))
-refused-only o (words.forbidden p h i j k) f l n = absurd (k (every-place (f .allowed) p i))
+refused-only o (words.forbidden h x) f l n = absurd (forbidden-none x (f .allowed))
 refused-only o (words.unclosed g u) f l n = absurd (unclosed-none u l)
-refused-only {room = room} o (words.bad-token g x a s) f l n = first-refused {room = room} (omega arith) (omega arith) (words.bad-token g x a s)
+refused-only {room = room} o (words.bad-first g x h) f l n = first-refused {room = room} (has-numbered h .0) (has-numbered h .1) (words.bad-first g x h)
 refused-only {room = room} o (words.bad-end ts g k w h) f l n = first-refused {room = room} (omega arith) (omega arith) (words.bad-end ts g k w h)
-refused-only {room = room} o (words.bad-operand g x a s) f l n = first-refused {room = room} (omega arith) (omega arith) (words.bad-operand g x a s)
-refused-only {room = room} o (words.too-deep g x w) f l n = first-refused {room = room} (omega arith) (omega arith) (words.too-deep g x w)
-refused-only o (words.too-heavy {r} g d w) f l n = absurd (n r (derived d))
-refused-only o (words.no-room {r} g d w k) f l n = absurd (n r (derived d))
-refused-only o (words.compiles {r} g d w k) f l n = absurd (n r (derived d))
+refused-only o (words.too-heavy {r} g d w) f l n = absurd (n r (d .derived))
+refused-only o (words.no-room {r} g d w k) f l n = absurd (n r (d .derived))
+refused-only o (words.compiles {r} g d w k) f l n = absurd (n r (d .derived))
 
 -- demand 3
 pub demand-three : DemandThree ourCompiler ourJudge

@@ -1,12 +1,12 @@
 -- Judging a message's record with the program of a text: the verdict that the words mean, and the lines. Assumes nothing.
-use Prim.Native.Nat.{ℕ, _≤_}
+use Prim.Native.Nat.{ℕ}
 use native.Mathlib.Omega.{arith}
 use mathlib.Core.Path.{_≡_, refl, sym, _∙_}
 use mathlib.Core.Bool.{Bool, true, false}
-use mathlib.Core.List.{List, _++_}
+use mathlib.Core.List.{List}
 use mathlib.Core.Logic.{_↔_}
 use mathlib.Core.Option.{Option}
-use lib.ListN.{length, drop}
+use lib.ListN.{length}
 use lib.Dec.{ltb}
 use borrow.Author.Tests.{le-ltb}
 use Rattle.octets.specs.Choice.{pick}
@@ -28,7 +28,7 @@ use Rattle.judge.specs.Judging.{judgedBy, saidOf}
 use Rattle.judge.specs.Functions.{judgement, ourJudge}
 use Rattle.claims.specs.Functions.{reported}
 use Rattle.claims.specs.Ours.{ourCompiler}
-use Rattle.claims.specs.DemandThree.{Derived}
+use Rattle.filter.specs.Answers.{Derived}
 use Rattle.claims.specs.DemandTwo.{OnMessage}
 use Rattle.claims.proofs.DemandThree.{judges}
 

@@ -38,16 +38,16 @@ use Rattle.run.specs.Runs.{Runner}
 use Rattle.pairs.specs.RecordR.{recordR, messageR}
 use Rattle.pairs.proofs.RecordR.{record-represents}
 use Rattle.pairs.proofs.Texts.{TextOnR}
-use Rattle.pairs.proofs.KnownPairs.{notLoopsText, not-loops}
-use Rattle.pairs.proofs.Samples.{loopsText, bogonText, loops, bogon}
+use Rattle.pairs.proofs.KnownPairs.{not-loops}
+use Rattle.pairs.proofs.Samples.{loops, bogon}
 use Rattle.claims.specs.Functions.{Compiler, reported, Walker, placeBy, stepBy}
 use Rattle.claims.specs.Ours.{ourCompiler}
 use Rattle.claims.specs.Walk.{Walks}
 use Rattle.claims.specs.DemandOne.{DemandOne}
 use Rattle.claims.specs.DemandTwo.{OnMessage, DemandTwo}
-use Rattle.claims.specs.DemandThree.{Compiles, Derived, JudgedSo, DemandThree}
+use Rattle.claims.specs.DemandThree.{Compiles, JudgedSo, DemandThree}
 use Rattle.claims.specs.Wrong.{RefusesAll, OneProgram, AlwaysKeeps, WritesNothing, StepsMadeUp, CountsNothing, ReadsAll, NeverMoves}
-use Rattle.claims.proofs.DemandThree.{demand-three, derived, compiled-compiles}
+use Rattle.claims.proofs.DemandThree.{demand-three, compiled-compiles}
 
 -- ---- samples: `-loops`, `! -loops` and `-bogon-asn` on R
 
@@ -132,7 +132,7 @@ module _ {Verdict : Message → Reading → Type 0} {text : List ℕ} {r : Readi
   -- into the program of its reading
   records-are : (compiler : Compiler) (judge : Judge) → DemandThree compiler judge
       → (compiler text buffer .value ≡ length (programOf r)) × (compiler text buffer .buffer ≡ programOf r ++ drop (length (programOf r)) buffer)
-  records-are compiler judge d = d text buffer [] [] none .records (number-is compiler judge d) (derived (t .derives))
+  records-are compiler judge d = d text buffer [] [] none .records (number-is compiler judge d) (t .derives .derived)
 
   -- and reports that program's bytes
   reported-are : (compiler : Compiler) (judge : Judge) → DemandThree compiler judge → reported (compiler text buffer) ≡ programOf r
@@ -144,18 +144,18 @@ module _ {Verdict : Message → Reading → Type 0} {text : List ℕ} {r : Readi
     -- what is claimed of judging R with it, where another judge shows that the compiler compiles as demand 3 has it
     on-R : (other : Judge) (runner : Runner) → DemandThree compiler other → DemandTwo compiler judge runner → (lines : List ℕ)
         → OnMessage r messageR lines (judge (reported (compiler text buffer)) recordR lines none)
-    on-R other runner c d lines = d .on-message {buffer = buffer} (number-is compiler other c) (derived (t .derives)) record-represents lines none uncounted
+    on-R other runner c d lines = d .on-message {buffer = buffer} (number-is compiler other c) (t .derives .derived) record-represents lines none uncounted
 
     -- and of its steps
     steps-on-R : DemandThree compiler judge → JudgedSo r messageR room none (compiler text buffer) (judge (reported (compiler text buffer)) recordR room none)
     steps-on-R d =
         let e : compiler text buffer .number ≡ 0 = number-is compiler judge d in
-        rw (eq-eqb _ _ e) at (d text buffer recordR room none .judged e (derived (t .derives)) record-represents)
+        rw (eq-eqb _ _ e) at (d text buffer recordR room none .judged e (t .derives .derived) record-represents)
 
 -- judging R with `-loops` drops it
 loops-drop : judgeOf (programOf (test hasLoop)) recordR 0 (some none-seen) ≡ dropped (steps (isTrue messageR) (test hasLoop))
 loops-drop =
-    reading-judged (test hasLoop) (reads-possible (loops .derives .reads)) (omega (arith, few-loops)) record-represents room-to-count 0
+    reading-judged (test hasLoop) (reads-possible (loops .derives .derived .reads)) (omega (arith, few-loops)) record-represents room-to-count 0
     (steps-on-R loops few-loops ourCompiler ourJudge demand-three .drops .1 (loops .verdict))
 
 -- ---- compilers

@@ -1,9 +1,9 @@
 -- AS numbers are whole: every number of a width stands in some record, as the peer's and as the path. Assumes nothing.
-use Prim.Native.Nat.{ℕ, zero, suc, _+_, _^_, _≤_, _<_}
+use Prim.Native.Nat.{ℕ, zero, suc, _^_, _≤_, _<_}
 use native.Mathlib.Omega.{arith}
-use mathlib.Core.Path.{_≡_, refl}
+use mathlib.Core.Path.{refl}
 use mathlib.Core.Bool.{Bool, true, false}
-use mathlib.Core.List.{List, [], _∷_, map}
+use mathlib.Core.List.{[], _∷_, map}
 use lib.ListN.{getD}
 use lib.Dec.{ltb}
 use Rattle.octets.specs.Choice.{pick}
@@ -13,15 +13,14 @@ use Rattle.aspath.specs.declared.Width.{Width}
 use Rattle.aspath.specs.declared.Width.the-variants.{Two, Four}
 use Rattle.aspath.specs.Members.{Segment, sequence, members}
 use Rattle.aspath.specs.Wire.{bytes}
-use Rattle.aspath.proofs.SegmentReads.{Encodable, segmentCost}
+use Rattle.aspath.proofs.SegmentReads.{Encodable}
 use Rattle.attributes.specs.Attribute.{asPath, codeOf, firstOf, askPath}
 use Rattle.attributes.specs.Codes.{Twice}
 use Rattle.attributes.proofs.RawReads.{withHeader}
 use Rattle.attributes.proofs.AttributesExist.{bodyCost}
 use Rattle.message.specs.Message.{Message, update}
-use Rattle.message.specs.Represents.{messageLimit, Represents}
 use Rattle.message.proofs.RecordReads.{represents-one}
-use Rattle.message.proofs.Encodable.{updateCost, for-update, Allowed, represents-exists}
+use Rattle.message.proofs.Encodable.{for-update, Allowed, represents-exists}
 use Rattle.claims.specs.DemandTwo.{Whole}
 
 -- a sequence of a number alone

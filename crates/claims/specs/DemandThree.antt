@@ -18,28 +18,22 @@ use Rattle.truth.specs.Means.{isTrue}
 use Rattle.truth.specs.Records.{recordTruth}
 use Rattle.truth.specs.Verdict.{Keeps, Drops}
 use Rattle.token.specs.Tokens.{Placed, Lexes}
-use Rattle.filter.specs.Grammar.{expression, Reads}
-use Rattle.filter.specs.Answers.{bare, Fine, Derives}
+use Rattle.filter.specs.Answers.{Fine, Derived, DerivedWithin}
 use Rattle.filter.specs.Refused.{FirstRefused}
 use Rattle.judge.specs.declared.Tally.{Tally}
 use Rattle.judge.specs.Tallies.{FullTally}
 use Rattle.judge.specs.Functions.{Judging, Judge}
 use Rattle.claims.specs.Functions.{Compiling, Compiler, reported, judgedWith}
 
--- "its size, bytes, quotes and nesting are as the paper allows, the grammar derives it, its weight is within the limit and the buffer holds its program"
+-- "its size, bytes, quotes and nesting are as the paper allows, the grammar derives it, its weight is within the limit and the buffer holds its program": what
+-- filter/Answers asks in its rule `compiles`
 pub record Compiles (text : List ℕ) (room : ℕ) : Type 0 where
   pub fine : Fine text
   pub reading : Reading
   -- tokens, so every quote is closed; derived, with at most 32 levels open
-  pub derives : Derives text reading
+  pub derives : DerivedWithin text reading
   pub light : weight reading ≤ weightLimit
   pub fits : recordSize * weight reading ≤ room
-
--- the grammar derives a text, whatever its nesting
-pub record Derived (text : List ℕ) (r : Reading) : Type 0 where
-  pub tokens : List Placed
-  pub lexed : Lexes 0 text tokens
-  pub reads : Reads expression (bare tokens) r
 
 -- what is claimed of the reading of a text that compiles, of a readable record's message, and of judging it with the reported bytes
 pub record JudgedSo (r : Reading) (m : Message) (lines : List ℕ) (counting : Option Tally) (c : Compiling) (j : Judging) : Type 0 where

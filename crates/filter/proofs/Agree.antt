@@ -2,38 +2,24 @@
 use Prim.Native.Nat.{ℕ, _+_, _≤_, max}
 use native.Mathlib.Nat.{le-refl}
 use native.Mathlib.Omega.{arith}
-use native.Mathlib.Decide.{decLe}
-use mathlib.Core.Path.{_≡_, refl, ap, _∙_, sym}
+use mathlib.Core.Path.{_≡_, ap, _∙_, sym}
 use mathlib.Core.Option.{some}
 use mathlib.Core.List.{List, _++_}
 use lib.ListN.{length, take, drop, length-append, take-append-drop}
 use lib.Seq.{take-append-seam}
 use Rattle.program.specs.Readings.{Reading}
 use Rattle.token.specs.Tokens.{Token}
-use Rattle.filter.specs.Grammar.{Part, expression, conjunction, factor, Reads}
-use Rattle.filter.specs.Levels.{openAt, Open, levels}
+use Rattle.filter.specs.Grammar.{expression, Reads}
+use Rattle.filter.specs.Levels.{openAt, Open}
 use Rattle.filter.specs.Reader.{whole, depth, State, level, came, finish, start, walk}
 use Rattle.filter.proofs.Walks.{walk-split, wider}
-use Rattle.filter.proofs.Complete.{raised, derived-walks}
-use Rattle.filter.proofs.Counts.{open-past, Peak, peak}
+use Rattle.filter.proofs.Complete.{derived-walks}
+use Rattle.filter.proofs.Counts.{levels, Peak, peak, levels-open}
 use Rattle.filter.proofs.Located.{Located, located}
 use Rattle.filter.proofs.Leveled.{walk-within}
 
--- a part has its own levels as an expression
-raised-levels : {p : Part} {ts : List Token} {r : Reading} (d : Reads p ts r) → levels (raised d) ≡ levels d
-unfolding raised levels
-raised-levels {p = expression} d = refl
-raised-levels {p = conjunction} d = refl
-raised-levels {p = factor} d = refl
-
-raised-open : {p : Part} {ts : List Token} {r : Reading} (d : Reads p ts r) (n : ℕ) → openAt (raised d) n ≡ openAt d n
-unfolding raised openAt
-raised-open {p = expression} d n = refl
-raised-open {p = conjunction} d n = refl
-raised-open {p = factor} d n = refl
-
 -- the levels that a derivation counts after n tokens are those open in the reader
-pub count-level : (L : ℕ) (ts : List Token) (n : ℕ) (s : State) {r : Reading} → walk L start (take n ts) ≡ came s → (d : Reads expression ts r)
+count-level : (L : ℕ) (ts : List Token) (n : ℕ) (s : State) {r : Reading} → walk L start (take n ts) ≡ came s → (d : Reads expression ts r)
     → n ≤ length ts → openAt d n ≡ level s
 unfolding depth
 count-level L ts n s e d i = by-place (located M d whole n (omega arith) i)
@@ -74,33 +60,13 @@ levels-within L ts s e d = by-peak (peak d)
     by-peak : Peak (openAt d) (length ts) (levels d) → levels d ≤ L
     by-peak q = by-split q (walk-split L start (take (q .place) ts) (drop (q .place) ts) s (rw (take-append-drop (q .place) ts) e))
 
--- two derivations of the same tokens have the same levels, at most and at each place
-pub levels-one : {p : Part} {ts : List Token} {r r′ : Reading} (d : Reads p ts r) (d′ : Reads p ts r′) → levels d ≡ levels d′
-levels-one {p} {ts} {r} {r′} d d′ = by-walks (derived-walks (levels (raised d)) (raised d) (le-refl _)) (derived-walks (levels (raised d′)) (raised d′) (le-refl _))
+-- where one derivation keeps within a limit, every derivation of the same tokens does
+pub within-all : {ts : List Token} {r r′ : Reading} (d : Reads expression ts r) (d′ : Reads expression ts r′) (L : ℕ) → ((n : ℕ) → openAt d n ≤ L)
+    → (n : ℕ) → openAt d′ n ≤ L
+within-all {ts} {r} d d′ L w n = by-walk (derived-walks L d (levels-open d L .1 w))
   where
-    by-walks : (s : State) × (walk (levels (raised d)) start ts ≡ came s) × (finish s ≡ some r)
-        → (s : State) × (walk (levels (raised d′)) start ts ≡ came s) × (finish s ≡ some r′) → levels d ≡ levels d′
-    by-walks (s, e, f) (s′, e′, f′) =
-        let i : levels (raised d′) ≤ levels (raised d) = levels-within (levels (raised d)) ts s e (raised d′) in
-        let j : levels (raised d) ≤ levels (raised d′) = levels-within (levels (raised d′)) ts s′ e′ (raised d) in
-        omega (arith, raised-levels d, raised-levels d′)
-
-pub open-same : {p : Part} {ts : List Token} {r r′ : Reading} (d : Reads p ts r) (d′ : Reads p ts r′) (n : ℕ) → openAt d n ≡ openAt d′ n
-open-same {p} {ts} {r} {r′} d d′ n = by-place (decLe n (length ts))
-  where
-    L : ℕ
-    L = levels (raised d)
-
-    by-state : n ≤ length ts → (x : State) → walk L start (take n ts) ≡ came x → openAt d n ≡ openAt d′ n
-    by-state i x f =
-        sym (raised-open d n) ∙ (count-level L ts n x f (raised d) i ∙ (sym (count-level L ts n x f (raised d′) i) ∙ raised-open d′ n))
-
-    by-walk : n ≤ length ts → (s : State) × (walk L start ts ≡ came s) × (finish s ≡ some r) → openAt d n ≡ openAt d′ n
-    by-walk i (s, e, f) = let (x, p, q) = walk-split L start (take n ts) (drop n ts) s (rw (take-append-drop n ts) e) in by-state i x p
-
-    by-place : Dec (n ≤ length ts) → openAt d n ≡ openAt d′ n
-    by-place (yes i) = by-walk i (derived-walks L (raised d) (le-refl _))
-    by-place (no i) = open-past d n (omega arith) ∙ sym (open-past d′ n (omega arith))
+    by-walk : (s : State) × (walk L start ts ≡ came s) × (finish s ≡ some r) → openAt d′ n ≤ L
+    by-walk (s, e, f) = levels-open d′ L .0 (levels-within L ts s e d′) n
 
 -- all continuations agree on the number of open levels
 pub open-one : {ts : List Token} {m n : ℕ} → Open ts m → Open ts n → m ≡ n

@@ -1,5 +1,5 @@
 -- The computed answer is one that the words give, and they give no other. Assumes nothing.
-use Prim.Native.Nat.{ℕ, _*_, _≤_, _<_}
+use Prim.Native.Nat.{ℕ, _*_, _≤_}
 use native.Mathlib.Omega.{arith}
 use native.Mathlib.Decide.{decLe}
 use native.Mathlib.Nat.{lt-of-not-le}
@@ -10,28 +10,28 @@ use borrow.Author.Tests.{lt-ltb, le-ltb}
 use Rattle.program.specs.Readings.{Reading, weight}
 use Rattle.program.specs.Records.{weightLimit}
 use Rattle.program.specs.Layout.{recordSize}
-use Rattle.token.specs.Texts.{textLimit}
+use Rattle.token.specs.Texts.{textLimit, Forbidden}
 use Rattle.filter.specs.Levels.{levelLimit}
-use Rattle.token.specs.Tokens.{Placed, Lexes, Unclosed}
+use Rattle.token.specs.Tokens.{Placed, Lexes}
 use Rattle.token.specs.Lexer.{Lexed, tokens, unclosed}
 use Rattle.token.specs.Lexer as lexer
 use Rattle.token.specs.Next.{allowedFront}
-use Rattle.token.proofs.AllowedBytes.{Forbidden, forbidden-once, forbidden-none, front-most, allowed-front, front-forbidden}
-use Rattle.token.proofs.Lexing.{read-tokens, read-unclosed, lexes-once, lex-complete}
-use Rattle.filter.specs.Answers.{bare, Fine, Reaches, Derives, Outcome, compiled, refused, Answers}
+use Rattle.token.proofs.AllowedBytes.{forbidden-once, forbidden-none, front-most, allowed-front, front-forbidden}
+use Rattle.token.proofs.Lexing.{read-tokens, read-unclosed, lexes-once}
+use Rattle.filter.specs.Answers.{bare, Fine, DerivedWithin, Outcome, refused, Answers}
 use Rattle.filter.specs.Answers as words
 use Rattle.filter.specs.Reader.{Answer, read}
 use Rattle.filter.specs.Reader as reader
 use Rattle.filter.specs.Answering.{fitted, judged, lexed, answer}
 use Rattle.filter.proofs.Sound.{sound}
 use Rattle.filter.proofs.Refusals as refusals
-use Rattle.filter.proofs.Places.{refused-answers, read-derives, Refused, answers-refused, derives-read}
+use Rattle.filter.proofs.Places.{refused-answers, read-derived, Refused, answers-refused, derived-read}
 
 -- ---- the words give the computed answer
 
 module _ (text : List ℕ) (room : ℕ) where
   -- 7 and 8, or compiled
-  fitted-answers : (r : Reading) → Fine text → Derives text r → Answers text room (fitted room r)
+  fitted-answers : (r : Reading) → Fine text → DerivedWithin text r → Answers text room (fitted room r)
   fitted-answers r f d = by-weight (decLe (weight r) weightLimit) (decLe (recordSize * weight r) room)
     where
       by-weight : Dec (weight r ≤ weightLimit) → Dec (recordSize * weight r ≤ room) → Answers text room (fitted room r)
@@ -42,7 +42,7 @@ module _ (text : List ℕ) (room : ℕ) where
 
   -- 4 to 6, or a reading
   judged-answers : (ps : List Placed) → Fine text → Lexes 0 text ps → (a : Answer) → read levelLimit (bare ps) ≡ a → Answers text room (judged (length text) ps room a)
-  judged-answers ps f l (reader.ok r) e = let (d, w) = sound levelLimit (bare ps) e in fitted-answers r f (read-derives ps l d w)
+  judged-answers ps f l (reader.ok r) e = let (d, w) = sound levelLimit (bare ps) e in fitted-answers r f (read-derived ps l d w)
   judged-answers ps f l (reader.refused w us) e = refused-answers ps f l (rw e at (refusals.judged levelLimit (bare ps)))
 
   -- 3, or tokens
@@ -58,9 +58,8 @@ module _ (text : List ℕ) (room : ℕ) where
       by-size : Dec (length text ≤ textLimit) → Dec (length text ≤ allowedFront text) → Answers text room (answer text room)
       by-size (no h) k = rw (lt-ltb textLimit (length text) (lt-of-not-le h)) (words.too-long (lt-of-not-le h))
       by-size (yes h) (no k) =
-          let x : Forbidden text (allowedFront text) = front-forbidden text .0 (lt-of-not-le k) in
           rw (le-ltb textLimit (length text) h, lt-ltb (allowedFront text) (length text) (lt-of-not-le k))
-          (words.forbidden (allowedFront text) h (x .within) (x .earlier) (x .here))
+          (words.forbidden h (front-forbidden text .0 (lt-of-not-le k)))
       by-size (yes h) (yes k) =
           let f : Fine text = record { short = h; allowed = allowed-front text .0 (omega (arith, front-most text)) } in
           rw (le-ltb textLimit (length text) h, le-ltb (allowedFront text) (length text) k) (lexed-answers f (lexer.read text) refl)
@@ -80,8 +79,10 @@ module _ (text : List ℕ) (room : ℕ) where
   tokens-answer ps f d e = fine-answer f ∙ (ap (lexed (length text) room) (read-tokens text ps .1 d) ∙ ap (judged (length text) ps room) e)
 
   -- a text that is derived
-  derived-answer : {r : Reading} → Fine text → (d : Derives text r) → answer text room ≡ fitted room r
-  derived-answer f d = tokens-answer (d .tokens) f (d .lexed) (derives-read text room (d .tokens) (λ qs l. lexes-once l (d .lexed)) d)
+  derived-answer : {r : Reading} → Fine text → DerivedWithin text r → answer text room ≡ fitted room r
+  derived-answer f d =
+      let x = d .derived in
+      tokens-answer (x .tokens) f (x .lexed) (derived-read text room (x .tokens) (λ qs l. lexes-once l (x .lexed)) d)
 
   -- 4 to 6
   refused-answer : {n p : ℕ} (ps : List Placed) → Fine text → Lexes 0 text ps → 4 ≤ n → n ≤ 6 → Answers text room (refused n p) → answer text room ≡ refused n p
@@ -102,15 +103,10 @@ module _ (text : List ℕ) (room : ℕ) where
   pub only-answer : {o : Outcome} → Answers text room o → answer text room ≡ o
   unfolding answer
   only-answer (words.too-long h) = rw (lt-ltb textLimit (length text) h)
-  only-answer (words.forbidden p h i j k) =
-      let x : Forbidden text p = record { within = i; earlier = j; here = k } in
-      let e : allowedFront text ≡ p = first-forbidden x in
-      rw (le-ltb textLimit (length text) h, e, lt-ltb p (length text) i)
+  only-answer (words.forbidden {p} h x) = rw (le-ltb textLimit (length text) h, first-forbidden x, lt-ltb p (length text) (x .within))
   only-answer (words.unclosed {p} f u) = fine-answer f ∙ ap (lexed (length text) room) (read-unclosed text p .1 u)
-  only-answer (words.bad-token f x a s) = refused-answer _ f (x .lexed) (omega arith) (omega arith) (words.bad-token f x a s)
+  only-answer (words.bad-first f x h) = refused-answer _ f (x .lexed) (refusals.has-numbered h .0) (refusals.has-numbered h .1) (words.bad-first f x h)
   only-answer (words.bad-end ts f l w n) = refused-answer ts f l (omega arith) (omega arith) (words.bad-end ts f l w n)
-  only-answer (words.bad-operand f x a s) = refused-answer _ f (x .lexed) (omega arith) (omega arith) (words.bad-operand f x a s)
-  only-answer (words.too-deep f x o) = refused-answer _ f (x .lexed) (omega arith) (omega arith) (words.too-deep f x o)
   only-answer (words.too-heavy {r} f d h) = derived-answer f d ∙ rw (lt-ltb weightLimit (weight r) h)
   only-answer (words.no-room {r} f d h k) = derived-answer f d ∙ rw (le-ltb weightLimit (weight r) h, lt-ltb room (recordSize * weight r) k)
   only-answer (words.compiles {r} f d h k) = derived-answer f d ∙ rw (le-ltb weightLimit (weight r) h, le-ltb room (recordSize * weight r) k)

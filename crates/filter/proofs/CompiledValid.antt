@@ -39,4 +39,4 @@ reads-possible (ored w e s c) = (reads-possible e, reads-possible c)
 
 -- the program of a text that compiles is valid
 pub compiled-valid : {text : List ℕ} {room : ℕ} {r : Reading} → Answers text room (compiled r) → Valid (programOf r)
-compiled-valid {r = r} (compiles f d w l) = reading-valid r (reads-possible (d .reads)) w
+compiled-valid {r = r} (compiles f d w l) = reading-valid r (reads-possible (d .derived .reads)) w

@@ -33,7 +33,7 @@ use Rattle.filter.specs.Answers.{bare, Outcome, compiled, refused}
 use Rattle.filter.specs.Reader.{whole, depth, State, have, bad, Answer, ok, leave, end, conclude, finish, read}
 use Rattle.filter.specs.Reader as reader
 use Rattle.filter.specs.Answering.{numberOf, fitted, judged, lexed, answer, valueOf, saidOf, bufferOf}
-use Rattle.filter.specs.Parsing.{from, run, begins, Stood, Ready, Read, Says, WholeRead, WholeStopped, Whole}
+use Rattle.filter.specs.Parsing.{from, run, begins, Stood, Ready, Read, PartSays, WholeRead, WholeStopped, Whole}
 use Rattle.filter.specs.declared.Refusal.{Refusal}
 use Rattle.filter.specs.declared.Refusal.the-variants.{Length, Byte, Quote, Token as aToken, Weight, Room}
 use Rattle.filter.specs.declared.Parsed.{Parsed}
@@ -76,7 +76,7 @@ module _ {text : List ℕ} {t : Lexeme} (short : length text ≤ textLimit) (clo
   unfolding read run begins
   whole-begins = ap (run (begins expression whole)) all-left
 
-  module _ {old new : List ℕ} {r : Parsed} (s : Says expression text 0 t 0 old r new) where
+  module _ {old new : List ℕ} {r : Parsed} (s : PartSays expression text 0 t 0 old r new) where
     -- the expression is refused
     pub whole-stops : {k : Refusal} {q : ℕ} → r ≡ Refused k q → Whole text old r new
     unfolding depth

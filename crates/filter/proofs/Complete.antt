@@ -8,16 +8,17 @@ use Rattle.program.specs.Readings.{Test, and, or, Reading, test}
 use Rattle.token.specs.Tokens.{Word, Token, open′, close, bang, word}
 use Rattle.filter.specs.Words.{joins, flag, name, Says}
 use Rattle.filter.specs.Grammar.{Operand, a-word, a-quoted, Part, expression, conjunction, factor, Reads, flagged, tested, negated, grouped, single, anded, lone, ored}
-use Rattle.filter.specs.Levels.{levels}
+use Rattle.filter.specs.Levels.{openAt}
 use Rattle.filter.specs.Reader.{Hole, whole, grouping, first, oring, head, anding, negating, depth, State, want, operand, have, level, takes, came, ok, settle, outer, again, leave, end, begin, fill, join, conclude, answered, finish, start, move, walk, read}
+use Rattle.filter.proofs.Counts.{levels, open-within, levels-open}
 use Rattle.filter.proofs.Walks.{step-opens, walk-go, walk-takes, walk-join}
 use Rattle.operand.specs.declared.Name.{Name}
-use Rattle.operand.specs.Tests.{StandsFor}
+use Rattle.operand.specs.Tests.{StandsFor, meaning}
 use Rattle.operand.proofs.Meanings.{meaning-complete}
 use Rattle.filter.proofs.Roles.{said-role}
 
 -- every part is an expression
-unfoldable pub raised : {p : Part} {ts : List Token} {r : Reading} → Reads p ts r → Reads expression ts r
+raised : {p : Part} {ts : List Token} {r : Reading} → Reads p ts r → Reads expression ts r
 raised {p = expression} d = d
 raised {p = conjunction} d = lone d
 raised {p = factor} d = lone (single d)
@@ -44,11 +45,16 @@ pub name-moves : (h : Hole factor) {w : Word} {k : Name} → Says w (name k) →
 unfolding move begin
 name-moves h {w} {k} q = ap (begin h) (said-role q)
 
+-- an operand is read by its bytes
+pub operand-fills : (h : Hole factor) (k : Name) {o : Token} {v : Word} → Operand o v → move (operand k h) o ≡ fill h (meaning k v)
+unfolding move
+operand-fills h k a-word = refl
+operand-fills h k a-quoted = refl
+
 -- a good operand
 pub operand-moves : (h : Hole factor) {o : Token} {v : Word} {k : Name} {x : Test} → Operand o v → StandsFor k v x → move (operand k h) o ≡ takes (settle (test x) h)
-unfolding move fill
-operand-moves h {v = v} {k} {x} a-word m = ap (fill h) (meaning-complete m)
-operand-moves h {v = v} {k} {x} a-quoted m = ap (fill h) (meaning-complete m)
+unfolding fill
+operand-moves h {k = k} a m = operand-fills h k a ∙ ap (fill h) (meaning-complete m)
 
 -- `-and` after factors
 pub and-moves : (r : Reading) (h : Hole conjunction) {w : Word} → Says w (joins and) → move (have r h) (word w) ≡ takes (want (anding r h))
@@ -108,9 +114,9 @@ module _ (L : ℕ) where
       by-walk (c, k, q, f) = (have c k, f, ap end q)
 
   -- what is derived within the limit is read so
-  pub complete : {ts : List Token} {r : Reading} (d : Reads expression ts r) → levels d ≤ L → read L ts ≡ ok r
+  pub complete : {ts : List Token} {r : Reading} (d : Reads expression ts r) → ((n : ℕ) → openAt d n ≤ L) → read L ts ≡ ok r
   unfolding read answered conclude
-  complete {ts} {r} d l = by-walk (derived-walks d l)
+  complete {ts} {r} d w = by-walk (derived-walks d (levels-open d L .1 w))
     where
       by-walk : (s : State) × (walk L start ts ≡ came s) × (finish s ≡ some r) → answered (walk L start ts) ≡ ok r
       by-walk (s, e, f) = ap answered e ∙ ap conclude f
@@ -119,8 +125,8 @@ module _ (L : ℕ) where
 one-expression : {ts : List Token} {r r′ : Reading} → Reads expression ts r → Reads expression ts r′ → r ≡ r′
 one-expression {ts} {r} {r′} d d′ =
     let L : ℕ = max (levels d) (levels d′) in
-    let e : read L ts ≡ ok r = complete L d (omega arith) in
-    let e′ : read L ts ≡ ok r′ = complete L d′ (omega arith) in
+    let e : read L ts ≡ ok r = complete L d (λ n. omega (arith, open-within d n)) in
+    let e′ : read L ts ≡ ok r′ = complete L d′ (λ n. omega (arith, open-within d′ n)) in
     cc
 
 -- a list of tokens has at most one reading

@@ -1,10 +1,11 @@
--- The levels that a derivation counts: none past its end, never more than `levels` says, and somewhere so many. Assumes nothing.
+-- The levels that a derivation counts: none past its end, and the most of them, `levels`. Assumes nothing.
 use Prim.Native.Nat.{ℕ, zero, suc, _+_, _-_, _≤_, _<_, max}
 use native.Mathlib.Omega.{arith}
 use native.Mathlib.Decide.{decLe}
 use mathlib.Core.Path.{_≡_, refl, ap}
 use mathlib.Core.Bool.{Bool, true, false}
 use mathlib.Core.List.{List, [], _∷_, _++_}
+use mathlib.Core.Logic.{_↔_}
 use lib.Dec.{leb, ltb}
 use lib.ListN.{length, length-append}
 use borrow.Author.Tests.{lt-ltb, le-ltb, le-leb, lt-leb}
@@ -12,7 +13,18 @@ use Rattle.octets.specs.Choice.{pick}
 use Rattle.program.specs.Readings.{Reading}
 use Rattle.token.specs.Tokens.{Token, close, word}
 use Rattle.filter.specs.Grammar.{Part, Reads, flagged, tested, negated, grouped, single, anded, lone, ored}
-use Rattle.filter.specs.Levels.{openAt, levels}
+use Rattle.filter.specs.Levels.{openAt}
+
+-- how many levels are open at once, at most, in what is read so
+unfoldable pub levels : {p : Part} {ts : List Token} {r : Reading} → Reads p ts r → ℕ
+levels (flagged q) = 0
+levels (tested q o m) = 0
+levels (negated f) = suc (levels f)
+levels (grouped e) = suc (levels e)
+levels (single f) = levels f
+levels (anded w c q f) = max (levels c) (levels f)
+levels (lone c) = levels c
+levels (ored w e q c) = max (levels e) (levels c)
 
 -- past the end of a joint no level is open where none is past its right side
 joint-past : (ts us : List Token) (t : Token) (n count : ℕ) (b : ℕ → ℕ) → length (ts ++ (t ∷ us)) ≤ n
@@ -45,7 +57,7 @@ joint-within : (b : Bool) {m n j k : ℕ} → m ≤ j → n ≤ k → pick b m n
 joint-within true p q = omega arith
 joint-within false p q = omega arith
 
--- never more levels are open than `levels` says
+-- never more levels are open than these
 pub open-within : {p : Part} {ts : List Token} {r : Reading} (d : Reads p ts r) (n : ℕ) → openAt d n ≤ levels d
 unfolding openAt levels
 open-within (flagged q) n = omega arith
@@ -90,7 +102,7 @@ peak-joint ts us t {a} {b} {m} {n} p q = by-size (decLe n m)
           there = rw (lt-leb (length ts + 1 + q .place) (length ts) (omega arith), f, e) (q .there);
         }
 
--- somewhere inside as many levels are open as `levels` says
+-- somewhere inside so many levels are open
 pub peak : {p : Part} {ts : List Token} {r : Reading} (d : Reads p ts r) → Peak (openAt d) (length ts) (levels d)
 unfolding openAt levels
 peak (flagged q) = record { place = 0; inside = omega arith; there = refl }
@@ -111,3 +123,7 @@ peak (single f) = peak f
 peak (anded {ts = ts} {us} w c q f) = peak-joint ts us (word w) (peak c) (peak f)
 peak (lone c) = peak c
 peak (ored {ts = ts} {us} w e q c) = peak-joint ts us (word w) (peak e) (peak c)
+
+-- so a bound for them is one for the levels open anywhere
+pub levels-open : {p : Part} {ts : List Token} {r : Reading} (d : Reads p ts r) (L : ℕ) → (levels d ≤ L) ↔ ((n : ℕ) → openAt d n ≤ L)
+levels-open d L = (λ l n. omega (arith, open-within d n), λ f. omega (arith, f (peak d .place), peak d .there))

@@ -3,7 +3,7 @@ use Prim.Native.Nat.{ℕ}
 use mathlib.Core.Path.{_≡_, refl, ap, _∙_}
 use mathlib.Core.Option.{some}
 use mathlib.Core.List.{List, [], _∷_, _++_}
-use Rattle.program.specs.Readings.{hasLoop, and, or, Reading, test, neg, joint}
+use Rattle.program.specs.Readings.{Test, hasLoop, and, or, Reading, test, neg, joint}
 use Rattle.token.specs.Tokens.{Word, Token, close, bang, word}
 use Rattle.filter.specs.Grammar.{Operand, a-word, Part, expression, conjunction, factor, Reads}
 use Rattle.filter.specs.Levels.{Open}
@@ -11,14 +11,16 @@ use Rattle.filter.specs.Answers.{Alive, Leads, Stands}
 use Rattle.filter.specs.Reader.{Hole, whole, grouping, first, oring, head, anding, negating, State, want, operand, have, level, came, settle, outer, end, finish, start, walk}
 use Rattle.filter.proofs.Walks.{walk-takes, walk-join}
 use Rattle.filter.proofs.Complete.{flag-moves, operand-moves, close-moves}
+use Rattle.filter.proofs.Counts.{levels-open}
 use Rattle.filter.proofs.Agree.{levels-within, open-level}
 use Rattle.filter.proofs.Sound.{at-not, At, finish-at, walk-moves, walk-at}
 use Rattle.operand.specs.declared.Name.{Name}
+use Rattle.operand.specs.Tests.{StandsFor}
 use Rattle.operand.proofs.Samples.{sampleText, sampleTest, sample}
 use Rattle.filter.proofs.Roles.{loopsWord, loops-said}
 
 -- the `)` that a hole wants
-closers : {p : Part} → Hole p → List Token
+unfoldable pub closers : {p : Part} → Hole p → List Token
 closers whole = []
 closers (grouping h) = close ∷ closers h
 closers (first h) = closers h
@@ -41,7 +43,7 @@ Closes L conjunction h = (r : Reading) → Ends L (have r h) (closers h)
 Closes L expression h = (r c : Reading) (k : Hole conjunction) → outer c k ≡ (r, h) → Ends L (have c k) (closers h)
 
 -- the tokens that bring a state to the end of a text
-closing : State → List Token
+unfoldable pub closing : State → List Token
 closing (want h) = word (loopsWord) ∷ closers h
 closing (operand k h) = word (sampleText k) ∷ closers h
 closing (have r h) = closers h
@@ -79,9 +81,13 @@ module _ (L : ℕ) where
 ends-at : (ts : List Token) (s : State) (f : Ends 0 s (closing s)) → At ts s → Reads expression (ts ++ closing s) (f .reading)
 ends-at ts s f a = rw (f .finished) at (finish-at (ts ++ closing s) (f .last) (rw (f .walked) at (walk-moves 0 ts s (closing s) a)))
 
--- tokens that lead to a state are allowed
-pub alive-at : (ts : List Token) (s : State) → At ts s → Alive ts
-alive-at ts s a = record { more = closing s; reading = ends 0 s .reading; reads = ends-at ts s (ends 0 s) a }
+-- so they have a reading with it
+pub closed-at : (ts : List Token) (s : State) → At ts s → (r : Reading) × Reads expression (ts ++ closing s) r
+closed-at ts s a = (ends 0 s .reading, ends-at ts s (ends 0 s) a)
+
+-- and are allowed
+alive-at : (ts : List Token) (s : State) → At ts s → Alive ts
+alive-at ts s a = record { more = closing s; reading = closed-at ts s a .0; reads = closed-at ts s a .1 }
 
 -- tokens that are walked within a limit lead on within it
 pub leads : (L : ℕ) (ts : List Token) (s : State) → walk L start ts ≡ came s → Leads L ts
@@ -91,7 +97,8 @@ leads L ts s e =
       reading = ends 0 s .reading;
       reads = ends-at ts s (ends 0 s) (walk-at L ts s e);
       within =
-          levels-within L (ts ++ closing s) (ends L s .last) (walk-join L start ts (closing s) s e ∙ ends L s .walked) (ends-at ts s (ends 0 s) (walk-at L ts s e));
+          levels-open _ L .0
+          (levels-within L (ts ++ closing s) (ends L s .last) (walk-join L start ts (closing s) s e ∙ ends L s .walked) (ends-at ts s (ends 0 s) (walk-at L ts s e)));
     }
 
 -- and have as many levels open as the state
@@ -104,16 +111,19 @@ opened L ts s e =
       counted = open-level L ts (closing s) s e (ends-at ts s (ends 0 s) (walk-at L ts s e));
     }
 
--- where an operand is wanted, a word or a quoted token stands as one
-pub stands : (ts : List Token) (t : Token) (k : Name) (h : Hole factor) (v : Word) → At ts (operand k h) → Operand t v → Stands ts t
-stands ts t k h v (us, w, e, q, b) o =
-    record {
-      before = us;
-      named = w;
-      test = k;
-      bytes = v;
-      joined = e;
-      begins = alive-at (us ++ (bang ∷ [])) (want (negating h)) (at-not b);
-      says = q;
-      operand = o;
-    }
+-- where an operand is wanted, a word or a quoted token stands as one: here, one that breaks the test's rule
+pub breaks-rule : (ts : List Token) (t : Token) (k : Name) (h : Hole factor) (v : Word) → At ts (operand k h) → Operand t v → ((x : Test) → StandsFor k v x → ⊥)
+    → (s : Stands ts t) × ((x : Test) → StandsFor (s .test) (s .bytes) x → ⊥)
+breaks-rule ts t k h v (us, w, e, q, b) o n = (
+  record {
+    before = us;
+    named = w;
+    test = k;
+    bytes = v;
+    joined = e;
+    begins = alive-at (us ++ (bang ∷ [])) (want (negating h)) (at-not b);
+    says = q;
+    operand = o;
+  },
+  n,
+)

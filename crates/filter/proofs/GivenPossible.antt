@@ -20,7 +20,7 @@ use Rattle.token.specs.Texts.{textLimit}
 use Rattle.token.specs.Tokens.{Token, bang, word, quoted}
 use Rattle.filter.specs.Words.{flag, name, Says}
 use Rattle.filter.specs.Grammar.{factor, a-quoted, Reads, flagged, tested, negated, single, anded, lone, ored}
-use Rattle.filter.specs.Levels.{levels}
+use Rattle.filter.proofs.Counts.{levels}
 use Rattle.filter.specs.Answers.{Answers, compiles, compiled}
 use Rattle.filter.specs.Given.{Given}
 use Rattle.filter.proofs.CompiledValid.{reads-possible}
@@ -164,7 +164,7 @@ given-is-possible : {r : Record} → Given r → Possible r
 given-is-possible g = rw (g .stands) at (every-place (by-answer (g .compiles)) flip (g .place) (g .within))
   where
     by-answer : {text : List ℕ} {room : ℕ} {r : Reading} → Answers text room (compiled r) → Every Possible (records r)
-    by-answer {r = r} (compiles f d w l) = records-possible r (reads-possible (d .reads)) w
+    by-answer {r = r} (compiles f d w l) = records-possible r (reads-possible (d .derived .reads)) w
 
 -- validity's record rule says what compiling some text could give
 pub given-possible : (r : Record) → Possible r ↔ Given r

@@ -16,7 +16,7 @@ use Rattle.filter.specs.Reader.{Hole, whole, grouping, first, oring, hea
 use Rattle.filter.proofs.Walks.{no-came}
 use Rattle.operand.specs.Tests.{meaning}
 use Rattle.filter.specs.Words.{roleOf}
-use Rattle.filter.specs.Refused.{Opener, a-group, a-bang}
+use Rattle.filter.specs.Answers.{Opener, a-group, a-bang}
 
 -- the levels after a move, by those before it
 abbrev pub Leveled : Token → ℕ → Move → Type 0

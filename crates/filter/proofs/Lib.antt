@@ -3,6 +3,7 @@ pub mod Answered
 pub mod CompiledValid
 pub mod Compiles
 pub mod Complete
+pub mod Continued
 pub mod Counts
 pub mod DecimalTexts
 pub mod Endings
@@ -10,6 +11,7 @@ pub mod GivenPossible
 pub mod Leveled
 pub mod Located
 pub mod OperandTexts
+pub mod Operands
 pub mod Overlay
 pub mod Parts
 pub mod Places

@@ -15,11 +15,11 @@ use Rattle.program.specs.Readings.{Test, and, or, Reading}
 use Rattle.token.specs.Tokens.{Word, Token, open′, close, bang, word}
 use Rattle.filter.specs.Words.{joins, flag, name, Says}
 use Rattle.filter.specs.Grammar.{Operand, Part, expression, conjunction, factor, Reads, flagged, tested, negated, grouped, single, anded, lone, ored}
-use Rattle.filter.specs.Levels.{openAt, levels}
+use Rattle.filter.specs.Levels.{openAt}
 use Rattle.filter.specs.Reader.{Hole, grouping, first, oring, head, anding, negating, depth, State, want, operand, have, level, takes, opens, go, came, settle, move, step, walk}
 use Rattle.filter.proofs.Walks.{step-opens, walk-go, walk-takes, walk-join}
 use Rattle.filter.proofs.Complete.{enter, Walked, reads-walk, name-moves, and-moves, or-moves}
-use Rattle.filter.proofs.Counts.{open-past}
+use Rattle.filter.proofs.Counts.{levels, open-past}
 use Rattle.operand.specs.declared.Name.{Name}
 use Rattle.operand.specs.Tests.{StandsFor}
 

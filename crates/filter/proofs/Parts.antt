@@ -31,7 +31,7 @@ use Rattle.filter.specs.Grammar.{Part, expression, conjunction, factor}
 use Rattle.filter.specs.Answers.{bare}
 use Rattle.filter.specs.Reader.{Hole, grouping, first, oring, head, anding, negating, depth, State, want, have, level, bad, deep, takes, opens, stuck, refused, settle, outer, again, leave, end, join, conclude, finish, move}
 use Rattle.filter.specs.Answering.{startOf}
-use Rattle.filter.specs.Parsing.{roleSaid, tokenRole, roleIn, firstRole, from, run, begins, Stood, Over, Ready, Passed, Read, Stopped, Says}
+use Rattle.filter.specs.Parsing.{roleSaid, tokenRole, roleIn, firstRole, from, run, begins, Stood, Over, Ready, Passed, Read, Stopped, PartSays}
 use Rattle.filter.specs.declared.Role.{Role as Said}
 use Rattle.filter.specs.declared.Role.the-variants.{And, Or, Loops, Bogons, Named, Unknown}
 use Rattle.filter.specs.declared.Refusal.{Refusal}
@@ -40,7 +40,7 @@ use Rattle.filter.specs.declared.Parsed.{Parsed}
 use Rattle.filter.specs.declared.Parsed.the-variants.{Upto, Refused}
 use Rattle.filter.proofs.Role as roles
 use Rattle.filter.proofs.Complete.{close-moves}
-use Rattle.filter.specs.Refused.{Opener, a-group, a-bang}
+use Rattle.filter.specs.Answers.{Opener, a-group, a-bang}
 use Rattle.filter.proofs.Overlay.{wrote-flip, wrote-pass}
 use Rattle.filter.proofs.Steps.{run-none, end-none, token-within, ready-next, next-behind, from-next, fewer-next, run-takes, run-opens, run-stuck, run-deep, start-token, start-end, stopped-here, passed-none, passed-next, passed-both}
 
@@ -210,7 +210,7 @@ stopped-in p q {text} {lv} {in-lv} {place} {t} {u} x s f = record {
 
 module _ {p : Part} {text old new : List ℕ} {lv n : ℕ} {t : Lexeme} where
   -- an answer for what was read
-  pub says-read : {u : Lexeme} {m : ℕ} → Read p text lv t n old u m new → Over p (from text u) → Says p text lv t n old (Upto u m) new
+  pub says-read : {u : Lexeme} {m : ℕ} → Read p text lv t n old u m new → Over p (from text u) → PartSays p text lv t n old (Upto u m) new
   says-read {u} {m} r o = record {
     upto = λ v j e. let x : u ≡ v = cc in let y : m ≡ j = cc in rw (← x, ← y) r;
     over = λ v j e. let x : u ≡ v = cc in rw (← x) o;
@@ -218,7 +218,7 @@ module _ {p : Part} {text old new : List ℕ} {lv n : ℕ} {t : Lexeme} where
   }
 
   -- for what was refused
-  pub says-stopped : {r : Parsed} {k : Refusal} {q : ℕ} → r ≡ Refused k q → Stopped p text lv t k q → Says p text lv t n old r new
+  pub says-stopped : {r : Parsed} {k : Refusal} {q : ℕ} → r ≡ Refused k q → Stopped p text lv t k q → PartSays p text lv t n old r new
   says-stopped {r} {k} {q} f s = record {
     upto = λ v j e. let z : _≡_ {A = ℕ} 0 1 = cc in absurd (omega arith);
     over = λ v j e. let z : _≡_ {A = ℕ} 0 1 = cc in absurd (omega arith);
@@ -239,7 +239,7 @@ sofar-length {old = old} {n = n} g = ap length (g .read .wrote) ∙ length-sets 
 
 module _ (o : Operator) {text old : List ℕ} {lv n : ℕ} {t : Lexeme} where
   -- a first side
-  pub sofar-first : {r : Parsed} {new : List ℕ} {u : Lexeme} {m : ℕ} → Ready text t n → Says (side o) text lv t n old r new → r ≡ Upto u m
+  pub sofar-first : {r : Parsed} {new : List ℕ} {u : Lexeme} {m : ℕ} → Ready text t n → PartSays (side o) text lv t n old r new → r ≡ Upto u m
       → Sofar o text lv t n old u m new
   sofar-first {new = new} {u = u} {m = m} ready s e = record { read = lift (s .upto u m e); over = s .over u m e; ready = read-ready ready (s .upto u m e) }
     where
@@ -262,14 +262,14 @@ module _ (o : Operator) {text old : List ℕ} {lv n : ℕ} {t : Lexeme} where
       }
 
   -- a first side that is refused
-  pub first-stops : {r : Parsed} {new : List ℕ} {k : Refusal} {q : ℕ} → r ≡ Refused k q → Says (side o) text lv t n old r new → Says (chain o) text lv t n old r new
+  pub first-stops : {r : Parsed} {new : List ℕ} {k : Refusal} {q : ℕ} → r ≡ Refused k q → PartSays (side o) text lv t n old r new → PartSays (chain o) text lv t n old r new
   first-stops {k = k} {q = q} e s =
       says-stopped e
       (stopped-in (chain o) (side o) passed-none (s .refused k q e) (λ h d. (alone o h, depth-alone o h ∙ d, ap (λ b. run b (from text t)) (begins-alone o h))))
 
   module _ {u : Lexeme} {m : ℕ} {mid : List ℕ} (g : Sofar o text lv t n old u m mid) where
     -- no side more
-    pub sofar-last : (roleIn (tokenIn text u) ≡ some (joins o) → ⊥) → Says (chain o) text lv t n old (Upto u m) mid
+    pub sofar-last : (roleIn (tokenIn text u) ≡ some (joins o) → ⊥) → PartSays (chain o) text lv t n old (Upto u m) mid
     unfolding Over
     sofar-last f = says-read (g .read) (by-operator o (g .over) (λ e. f (sym (first-role (g .ready)) ∙ e)))
       where
@@ -301,7 +301,7 @@ module _ (o : Operator) {text old : List ℕ} {lv n : ℕ} {t : Lexeme} where
 
       -- a side that is refused
       pub more-stops : {l : Lexeme} {r : Parsed} {late : List ℕ} {k : Refusal} {q : ℕ} → l ≡ nextAt text (u .end) → r ≡ Refused k q
-          → Says (side o) text lv l (m + 1) mid r late → Says (chain o) text lv t n old r late
+          → PartSays (side o) text lv l (m + 1) mid r late → PartSays (chain o) text lv t n old r late
       more-stops {k = k} {q = q} e f s =
           says-stopped f
           (stopped-in (chain o) (side o) (passed-both (g .read .passed) (passed-next (g .ready) (worded .1))) ((rw e at s) .refused k q f)
@@ -331,7 +331,7 @@ module _ (o : Operator) {text old : List ℕ} {lv n : ℕ} {t : Lexeme} where
 
       -- the same, from the answers of the functions called
       pub sofar-more : {l v : Lexeme} {j p : ℕ} {r : Parsed} {f : Fields} {late new : List ℕ} → l ≡ nextAt text (u .end)
-          → Says (side o) text lv l (m + 1) mid r late → r ≡ Upto v j → f ≡ fields (operatorKind o) 0 (j - m - 1) 0 0
+          → PartSays (side o) text lv l (m + 1) mid r late → r ≡ Upto v j → f ≡ fields (operatorKind o) 0 (j - m - 1) 0 0
           → Written late (recordSize * m) (laid f) new p → Sofar o text lv t n old v j new
       sofar-more {v = v} {j = j} {late = late} e s x i w =
           let s′ = rw e at s in
@@ -378,7 +378,7 @@ module _ {text : List ℕ} {t : Lexeme} {n : ℕ} (ready : Ready text t n) {a : 
 
   -- what is opened is refused
   pub opened-stops : {lv : ℕ} {u : Lexeme} {r : Parsed} {old new : List ℕ} {k : Refusal} {q : ℕ} → lv < levelLimit → u ≡ nextAt text (t .end) → r ≡ Refused k q
-      → Says (opened x) text (lv + 1) u n old r new → Says factor text lv t n old r new
+      → PartSays (opened x) text (lv + 1) u n old r new → PartSays factor text lv t n old r new
   opened-stops {k = k} {q = q} l e f s =
       says-stopped f
       (stopped-in factor (opened x) (passed-next ready token) ((rw e at s) .refused k q f)
@@ -391,8 +391,8 @@ negation-stood r h s e = e
 
 -- `!` and a factor, with its flip
 module _ {text old mid new : List ℕ} {t l u : Lexeme} {lv n m p : ℕ} {r : Parsed} {f : Fields} (ready : Ready text t n) (token : tokenIn text t ≡ some bang) where
-  pub negation : lv < levelLimit → l ≡ nextAt text (t .end) → Says factor text (lv + 1) l n old r mid → r ≡ Upto u m → f ≡ fields 10 0 0 0 0
-      → Written mid (recordSize * m) (laid f) new p → Says factor text lv t n old (Upto u (m + 1)) new
+  pub negation : lv < levelLimit → l ≡ nextAt text (t .end) → PartSays factor text (lv + 1) l n old r mid → r ≡ Upto u m → f ≡ fields 10 0 0 0 0
+      → Written mid (recordSize * m) (laid f) new p → PartSays factor text lv t n old (Upto u (m + 1)) new
   unfolding Over weight
   negation d e s x i w = says-read (lift ((rw e at s) .upto u m x) (w .laid ∙ ap (λ f. sets mid (recordSize * m) (laid f)) i)) tt
     where
@@ -448,7 +448,7 @@ unfinished {text} {u} ready (x, y) h r s (c, k, e, f) p q = rw f (go (end-or-tok
 
 -- `(` and an expression
 module _ {text old new : List ℕ} {t l u : Lexeme} {lv n m : ℕ} {r : Parsed} (ready : Ready text t n) (token : tokenIn text t ≡ some open′) (d : lv < levelLimit)
-    (e : l ≡ nextAt text (t .end)) (s : Says expression text (lv + 1) l n old r new) (x : r ≡ Upto u m) where
+    (e : l ≡ nextAt text (t .end)) (s : PartSays expression text (lv + 1) l n old r new) (x : r ≡ Upto u m) where
   -- what was read inside
   inner : Read expression text (lv + 1) (nextAt text (t .end)) n old u m new
   inner = (rw e at s) .upto u m x
@@ -458,7 +458,7 @@ module _ {text old new : List ℕ} {t l u : Lexeme} {lv n m : ℕ} {r : Parsed} 
   inner-ready = read-ready (next-ready ready token refl) inner
 
   -- no `)` follows
-  pub group-stops : (ks : List ℕ) → T (not (hasKey ks 2)) → OneOf ks (tagOf kinds.the-type (u .kind)) → Says factor text lv t n old (Refused aToken (u .start)) new
+  pub group-stops : (ks : List ℕ) → T (not (hasKey ks 2)) → OneOf ks (tagOf kinds.the-type (u .kind)) → PartSays factor text lv t n old (Refused aToken (u .start)) new
   unfolding leave end
   group-stops ks i j = says-stopped refl record {
     why = bad;
@@ -479,7 +479,7 @@ module _ {text old new : List ℕ} {t l u : Lexeme} {lv n m : ℕ} {r : Parsed} 
           ∙ (y ∙ unfinished inner-ready (s .over u m x) (grouping h) (inner .reading) z w (λ b. absurd (miss ks 2 i (rw (close-tag (u .kind) (bytesIn text u) b) at j))) (λ b. refl))
 
   -- `)` follows
-  pub group : {v : Lexeme} → u .kind ≡ Close → v ≡ nextAt text (u .end) → Says factor text lv t n old (Upto v m) new
+  pub group : {v : Lexeme} → u .kind ≡ Close → v ≡ nextAt text (u .end) → PartSays factor text lv t n old (Upto v m) new
   unfolding Over Stood
   group {v} c f = rw f (says-read closes tt)
     where

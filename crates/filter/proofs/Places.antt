@@ -8,13 +8,13 @@ use lib.Seq.{drop-at}
 use Rattle.program.specs.Readings.{Reading}
 use Rattle.token.specs.Tokens.{Token, Placed, placed, Lexes}
 use Rattle.filter.specs.Grammar.{expression, Reads}
-use Rattle.filter.specs.Levels.{levelLimit, levels}
-use Rattle.filter.specs.Answers.{Leads, bare, Fine, Reaches, Derives, Answers}
+use Rattle.filter.specs.Levels.{levelLimit, openAt}
+use Rattle.filter.specs.Answers.{Leads, Has, bare, Fine, Reaches, DerivedWithin, Answers}
 use Rattle.filter.specs.Answers as answers
 use Rattle.filter.specs.Answering.{numberOf, refusalOf, startOf, placeOf}
 use Rattle.filter.specs.Reader.{Why, bad, ok, refused, read}
 use Rattle.filter.proofs.Complete.{complete}
-use Rattle.filter.proofs.Refusals.{Judged, bad-token, bad-end, bad-operand, too-deep, only}
+use Rattle.filter.proofs.Refusals.{has-why, Judged, at-token, bad-end, only}
 
 -- tokens of joined lists are joined
 pub bare-append : (ps qs : List Placed) → bare (ps ++ qs) ≡ bare ps ++ bare qs
@@ -34,7 +34,7 @@ unfolding placeOf
 place-left e ps qs = rw (length-bare qs, length-append ps qs, drop-at ps qs (length ps + length qs - length qs) (omega arith))
 
 -- a token's place is found from the tokens that are left with it
-pub place-token : (e : ℕ) (ps : List Placed) (p : ℕ) (t : Token) (qs : List Placed) → placeOf e (ps ++ (placed p t ∷ qs)) (t ∷ bare qs) ≡ p
+place-token : (e : ℕ) (ps : List Placed) (p : ℕ) (t : Token) (qs : List Placed) → placeOf e (ps ++ (placed p t ∷ qs)) (t ∷ bare qs) ≡ p
 unfolding bare startOf
 place-token e ps p t qs = place-left e ps (placed p t ∷ qs)
 
@@ -88,9 +88,7 @@ module _ {text : List ℕ} {room : ℕ} (ps : List Placed) (fine : Fine text) (l
   -- the same, with the tokens named
   judged-answers : {ts us : List Token} {w : Why} → bare ps ≡ ts → Judged levelLimit ts (refused w us) → Answers text room (answers.refused (numberOf (refusalOf w)) (placeOf (length text) ps us))
   unfolding numberOf
-  judged-answers e (bad-token ts t us l f g) = answers.bad-token fine (reaches text (length text) ps ts t us lexed e l) f g
-  judged-answers e (bad-operand ts t us l f g) = answers.bad-operand fine (reaches text (length text) ps ts t us lexed e l) f g
-  judged-answers e (too-deep ts t us l o) = answers.too-deep fine (reaches text (length text) ps ts t us lexed e l) o
+  judged-answers e (at-token ts t us l h) = answers.bad-first fine (reaches text (length text) ps ts t us lexed e l) h
   judged-answers e (bad-end l f) = rw (place-end (length text) ps) (answers.bad-end ps fine lexed (rw e l) (rw e f))
 
   -- a refusal of the text's tokens is the text's answer
@@ -98,8 +96,8 @@ module _ {text : List ℕ} {room : ℕ} (ps : List Placed) (fine : Fine text) (l
   refused-answers j = judged-answers refl j
 
 -- a reading of the text's tokens is derived for the text
-pub read-derives : {text : List ℕ} {r : Reading} (ps : List Placed) → Lexes 0 text ps → (d : Reads expression (bare ps) r) → levels d ≤ levelLimit → Derives text r
-read-derives ps l d w = record { tokens = ps; lexed = l; reads = d; within = w }
+pub read-derived : {text : List ℕ} {r : Reading} (ps : List Placed) → Lexes 0 text ps → (d : Reads expression (bare ps) r) → ((n : ℕ) → openAt d n ≤ levelLimit) → DerivedWithin text r
+read-derived ps l d w = record { derived = record { tokens = ps; lexed = l; reads = d }; within = w }
 
 -- the reader refuses the tokens ps, and that is this number and place; e is the end's place
 pub record Refused (e : ℕ) (ps : List Placed) (n p : ℕ) : Type 0 where
@@ -110,11 +108,11 @@ pub record Refused (e : ℕ) (ps : List Placed) (n p : ℕ) : Type 0 where
   pub there : placeOf e ps left ≡ p
 
 module _ (text : List ℕ) (room : ℕ) (ps : List Placed) (once : (qs : List Placed) → Lexes 0 text qs → qs ≡ ps) where
-  -- a token that the text reaches, and that the words judge so whatever follows
-  at-token : {ts : List Token} {t : Token} {p : ℕ} {w : Why} → Reaches text ts t p → ((us : List Token) → Judged levelLimit (ts ++ (t ∷ us)) (refused w (t ∷ us)))
+  -- a token that the text reaches, and that has a number
+  first-refused : {ts : List Token} {t : Token} {p : ℕ} (w : Why) → Reaches text ts t p → Has levelLimit ts t (numberOf (refusalOf w))
       → Refused (length text) ps (numberOf (refusalOf w)) p
   unfolding bare
-  at-token {ts} {t} {p} {w} x j = by-tokens (once _ (x .lexed)) (x .tokens)
+  first-refused {ts} {t} {p} w x j = by-tokens (once _ (x .lexed)) (x .tokens)
     where
       by-tokens : x .front ++ (placed p t ∷ x .back) ≡ ps → bare (x .front) ≡ ts → Refused (length text) ps (numberOf (refusalOf w)) p
       by-tokens f g =
@@ -122,7 +120,7 @@ module _ (text : List ℕ) (room : ℕ) (ps : List Placed) (once : (qs : List Pl
           record {
             why = w;
             left = t ∷ bare (x .back);
-            answer = rw h (only levelLimit (j (bare (x .back))));
+            answer = rw h (only levelLimit (at-token ts t (bare (x .back)) (x .leads) j));
             numbered = refl;
             there = rw (← f) (place-token (length text) (x .front) p t (x .back));
           }
@@ -131,11 +129,12 @@ module _ (text : List ℕ) (room : ℕ) (ps : List Placed) (once : (qs : List Pl
   pub answers-refused : {n p : ℕ} → 4 ≤ n → n ≤ 6 → Answers text room (answers.refused n p) → Refused (length text) ps n p
   unfolding numberOf
   answers-refused i j (answers.too-long l) = absurd (omega arith)
-  answers-refused i j (answers.forbidden p l m f g) = absurd (omega arith)
+  answers-refused i j (answers.forbidden l x) = absurd (omega arith)
   answers-refused i j (answers.unclosed f u) = absurd (omega arith)
-  answers-refused i j (answers.bad-token {ts} {t} f x a s) = at-token x (λ us. bad-token ts t us (x .leads) a s)
-  answers-refused i j (answers.bad-operand {ts} {t} f x a s) = at-token x (λ us. bad-operand ts t us (x .leads) a s)
-  answers-refused i j (answers.too-deep {ts} {t} f x o) = at-token x (λ us. too-deep ts t us (x .leads) o)
+  answers-refused {n} {p} i j (answers.bad-first f x h) = by-why (has-why h)
+    where
+      by-why : (w : Why) × (numberOf (refusalOf w) ≡ n) → Refused (length text) ps n p
+      by-why (w, e) = rw e at (first-refused w x (rw e h))
   answers-refused i j (answers.bad-end ts f l w n) = by-end (once ts l)
     where
       by-end : ts ≡ ps → Refused (length text) ps 4 (length text)
@@ -150,8 +149,8 @@ module _ (text : List ℕ) (room : ℕ) (ps : List Placed) (once : (qs : List Pl
   answers-refused i j (answers.no-room f d w l) = absurd (omega arith)
 
   -- a text that is derived within the limit is read so
-  pub derives-read : {r : Reading} → Derives text r → read levelLimit (bare ps) ≡ ok r
-  derives-read {r} d = by-tokens (once (d .tokens) (d .lexed))
+  pub derived-read : {r : Reading} → DerivedWithin text r → read levelLimit (bare ps) ≡ ok r
+  derived-read {r} d = by-tokens (once (d .derived .tokens) (d .derived .lexed))
     where
-      by-tokens : d .tokens ≡ ps → read levelLimit (bare ps) ≡ ok r
-      by-tokens e = rw (← e) (complete levelLimit (d .reads) (d .within))
+      by-tokens : d .derived .tokens ≡ ps → read levelLimit (bare ps) ≡ ok r
+      by-tokens e = rw (← e) (complete levelLimit (d .derived .reads) (d .within))

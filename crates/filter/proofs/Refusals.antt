@@ -2,108 +2,94 @@
 use Prim.Native.Nat.{ℕ, suc, _≤_, max}
 use native.Mathlib.Nat.{le-refl}
 use native.Mathlib.Omega.{arith}
-use mathlib.Core.Path.{_≡_, refl, ap, _∙_, sym}
+use mathlib.Core.Path.{_≡_, refl, ap, _∙_}
 use mathlib.Core.Bool.{Bool, true, false}
 use mathlib.Core.Option.{Option, none, some}
-use mathlib.Core.List.{List, [], _∷_, _++_, append-assoc, append-nil, nil≢cons, head-eq-of-cons-eq}
+use mathlib.Core.List.{List, [], _∷_, _++_, append-assoc, append-nil}
+use mathlib.Core.Logic.{_↔_}
 use lib.Dec.{ltb}
 use borrow.Author.Tests.{ltb-true, ltb-false}
-use Rattle.program.specs.Readings.{Test, Reading}
-use Rattle.token.specs.Tokens.{Word, Token, bang, word}
-use Rattle.filter.specs.Grammar.{Operand, a-word, a-quoted, factor, expression, Reads}
-use Rattle.filter.specs.Levels.{Open, levels}
-use Rattle.filter.specs.Answers.{Alive, Leads, Stands}
-use Rattle.filter.specs.Reader.{Hole, depth, State, want, operand, have, level, Why, bad, broken, deep, Move, takes, opens, stuck, breaks, Step, go, stop, came, Answer, ok, refused, fill, admit, follow, finish, conclude, answered, start, move, step, walk, read}
-use Rattle.filter.proofs.Walks.{no-came, step-takes, step-opens, walk-go, walk-stop, walk-takes, walk-join, walk-split, wider}
-use Rattle.filter.proofs.Complete.{name-moves, derived-walks, complete}
-use Rattle.filter.specs.Refused.{Opener}
+use Rattle.program.specs.Readings.{Reading}
+use Rattle.token.specs.Tokens.{Token}
+use Rattle.filter.specs.Grammar.{expression, Reads}
+use Rattle.filter.specs.Levels.{openAt, Open}
+use Rattle.filter.specs.Answers.{Alive, Leads, Has, bad-token, bad-operand, too-deep}
+use Rattle.filter.specs.Answering.{numberOf, refusalOf}
+use Rattle.filter.specs.Reader.{depth, State, operand, level, Why, bad, broken, deep, Move, takes, opens, stuck, breaks, Step, go, stop, came, Answer, ok, refused, admit, follow, finish, conclude, answered, start, move, step, walk, read}
+use Rattle.filter.proofs.Walks.{no-came, step-takes, step-opens, walk-go, walk-stop, walk-join, wider}
+use Rattle.filter.proofs.Complete.{derived-walks, complete}
 use Rattle.filter.proofs.Leveled.{Leveled, move-level, walk-within}
-use Rattle.filter.proofs.Agree.{levels-within, reached, open-one}
+use Rattle.filter.proofs.Counts.{levels, levels-open}
+use Rattle.filter.proofs.Agree.{levels-within, open-one}
 use Rattle.filter.proofs.Sound.{Moved, Ended, move-at, finish-at, walk-at}
-use Rattle.filter.proofs.Endings.{leads, opened, stands}
-use Rattle.operand.specs.declared.Name.{Name}
-use Rattle.operand.specs.Tests.{meaning}
-
--- what leads on within a limit is allowed
-pub leads-alive : {L : ℕ} {ts : List Token} → Leads L ts → Alive ts
-leads-alive l = record { more = l .more; reading = l .reading; reads = l .reads }
-
--- what has levels open is allowed
-pub open-alive : {ts : List Token} {n : ℕ} → Open ts n → Alive ts
-open-alive o = record { more = o .more; reading = o .reading; reads = o .reads }
+use Rattle.filter.proofs.Endings.{leads, opened, breaks-rule}
+use Rattle.filter.proofs.Operands.{leads-alive, open-alive, alive-reached, leads-reached, operand-unstuck, broken-dead, operand-there}
 
 -- what leads on, leads on from each of its beginnings
 pub earlier : {L : ℕ} (ts us : List Token) → Leads L (ts ++ us) → Leads L ts
 earlier {L} ts us l = by-parts (rw (← (append-assoc ts us (l .more))) (l .reads, l .within))
   where
-    by-parts : (d : Reads expression (ts ++ (us ++ l .more)) (l .reading)) × (levels d ≤ L) → Leads L ts
+    by-parts : (d : Reads expression (ts ++ (us ++ l .more)) (l .reading)) × ((n : ℕ) → openAt d n ≤ L) → Leads L ts
     by-parts (d, w) = record { more = us ++ l .more; reading = l .reading; reads = d; within = w }
 
--- what the words say of an answer: for the tokens ts, with at most L levels open at once
-pub data Judged (L : ℕ) : List Token → Answer → Type 0 where
-  reads : {ts : List Token} {r : Reading} (d : Reads expression ts r) → levels d ≤ L → Judged L ts (ok r)
-  bad-token : (ts : List Token) (t : Token) (us : List Token) → Leads L ts → (Alive (ts ++ (t ∷ [])) → ⊥) → (Stands ts t → ⊥)
-      → Judged L (ts ++ (t ∷ us)) (refused bad (t ∷ us))
-  bad-end : {ts : List Token} → Leads L ts → ((r : Reading) → Reads expression ts r → ⊥) → Judged L ts (refused bad [])
-  bad-operand : (ts : List Token) (t : Token) (us : List Token) → Leads L ts → (Alive (ts ++ (t ∷ [])) → ⊥) → Stands ts t
-      → Judged L (ts ++ (t ∷ us)) (refused broken (t ∷ us))
-  too-deep : (ts : List Token) (t : Token) (us : List Token) → Leads L ts → Open (ts ++ (t ∷ [])) (suc L)
-      → Judged L (ts ++ (t ∷ us)) (refused deep (t ∷ us))
+-- ---- 4, 5 and 6 of a token
 
--- an operand that comes is taken, or breaks its test's rule
-fill-moves : (h : Hole factor) (x : Option Test) → fill h x ≡ stuck → ⊥
-unfolding fill
-fill-moves h none e = let z : _≡_ {A = ℕ} 0 1 = cc in omega arith
-fill-moves h (some x) e = let z : _≡_ {A = ℕ} 0 1 = cc in omega arith
+-- tokens after which a level too many is open don't lead on
+deep-ends : {L : ℕ} {ts : List Token} → Open ts (suc L) → Leads L ts → ⊥
+unfolding level depth
+deep-ends {L} {ts} o l = by-walk (leads-reached L ts l)
+  where
+    by-walk : (s : State) × (walk L start ts ≡ came s) → ⊥
+    by-walk (s, e) =
+        let i : level s ≤ L = walk-within L start ts s (omega arith) e in
+        let j : suc L ≡ level s = open-one o (opened L ts s e) in
+        omega arith
 
--- the state after tokens that are allowed, for some limit
-alive-reached : (L : ℕ) (ts : List Token) → Alive ts → (M : ℕ) × (s : State) × (L ≤ M) × (walk M start ts ≡ came s)
-alive-reached L ts a =
-    let M : ℕ = max L (levels (a .reads)) in
-    let (s, e) = reached M ts (a .more) (a .reads) (omega arith) in
-    (M, s, omega arith, e)
+-- tokens don't lead on with one that has a number
+pub has-ends : {L : ℕ} {ts : List Token} {t : Token} {n : ℕ} → Has L ts t n → Leads L (ts ++ (t ∷ [])) → ⊥
+has-ends (bad-token a s) l = a (leads-alive l)
+has-ends (bad-operand s f) l = broken-dead s f (leads-alive l)
+has-ends (too-deep x o) l = deep-ends o l
 
--- the state after tokens that lead on
-pub leads-reached : (L : ℕ) (ts : List Token) → Leads L ts → (s : State) × (walk L start ts ≡ came s)
-leads-reached L ts l = reached L ts (l .more) (l .reads) (l .within)
+-- it has one number: so it doesn't matter in which order they are looked for
+pub has-once : {L : ℕ} {ts : List Token} {t : Token} {m n : ℕ} → Has L ts t m → Has L ts t n → m ≡ n
+has-once (bad-token a s) (bad-token b r) = refl
+has-once (bad-token a s) (bad-operand r f) = absurd (s r)
+has-once (bad-token a s) (too-deep x o) = absurd (a (open-alive o))
+has-once (bad-operand s f) (bad-token b r) = absurd (r s)
+has-once (bad-operand s f) (bad-operand r g) = refl
+has-once (bad-operand s f) (too-deep x o) = absurd (broken-dead s f (open-alive o))
+has-once (too-deep x o) (bad-token b r) = absurd (b (open-alive o))
+has-once (too-deep x o) (bad-operand r g) = absurd (broken-dead r g (open-alive o))
+has-once (too-deep x o) (too-deep y p) = refl
 
--- only where a factor is wanted does `!` go on
-wanted : (M : ℕ) (s x : State) → walk M s (bang ∷ []) ≡ came x → (h : Hole factor) × (s ≡ want h)
-unfolding walk follow step admit move
-wanted M (want h) x e = (h, refl)
-wanted M (operand k h) x e = no-came _ e refl
-wanted M (have r h) x e = no-came _ e refl
+-- one of three
+pub has-numbered : {L : ℕ} {ts : List Token} {t : Token} {n : ℕ} → Has L ts t n → (4 ≤ n) × (n ≤ 6)
+has-numbered (bad-token a s) = (omega arith, omega arith)
+has-numbered (bad-operand s f) = (omega arith, omega arith)
+has-numbered (too-deep x o) = (omega arith, omega arith)
 
--- where an operand is wanted, none is stuck
-operand-unstuck : (k : Name) (h : Hole factor) {t : Token} {v : Word} → Operand t v → move (operand k h) t ≡ stuck → ⊥
-unfolding move
-operand-unstuck k h (a-word {v}) e = fill-moves h (meaning k v) e
-operand-unstuck k h (a-quoted {v}) e = fill-moves h (meaning k v) e
+-- the reader's reason for it
+pub has-why : {L : ℕ} {ts : List Token} {t : Token} {n : ℕ} → Has L ts t n → (w : Why) × (numberOf (refusalOf w) ≡ n)
+unfolding numberOf
+has-why (bad-token a s) = (bad, refl)
+has-why (bad-operand s f) = (broken, refl)
+has-why (too-deep x o) = (deep, refl)
+
+-- and its only one
+why-once : (v w : Why) → numberOf (refusalOf v) ≡ numberOf (refusalOf w) → v ≡ w
+unfolding numberOf
+why-once bad bad e = refl
+why-once bad broken e = absurd (omega arith)
+why-once bad deep e = absurd (omega arith)
+why-once broken bad e = absurd (omega arith)
+why-once broken broken e = refl
+why-once broken deep e = absurd (omega arith)
+why-once deep bad e = absurd (omega arith)
+why-once deep broken e = absurd (omega arith)
+why-once deep deep e = refl
 
 module _ (L : ℕ) (ts : List Token) (s : State) (came-to : walk L start ts ≡ came s) where
-  -- where t stands as an operand, the walk has come to a test's operand
-  operand-there : {t : Token} → Stands ts t → (k : Name) × (h : Hole factor) × (s ≡ operand k h)
-  unfolding walk
-  operand-there st = by-bang (alive-reached L (st .before ++ (bang ∷ [])) (st .begins))
-    where
-      by-want : (M : ℕ) (y : State) → L ≤ M → walk M start (st .before) ≡ came y → (h : Hole factor) × (y ≡ want h)
-          → (k : Name) × (h : Hole factor) × (s ≡ operand k h)
-      by-want M y l f (h, p) =
-          let a : walk M start (st .before) ≡ came (want h) = f ∙ ap came p in
-          let b : walk M start (st .before ++ (word (st .named) ∷ [])) ≡ came (operand (st .test) h) =
-          walk-join M start (st .before) (word (st .named) ∷ []) (want h) a
-          ∙ walk-takes M (want h) (operand (st .test) h) (word (st .named)) [] (name-moves h (st .says)) in
-          let c : walk M start ts ≡ came (operand (st .test) h) = rw (st .joined) b in
-          let d : walk M start ts ≡ came s = wider L M l start ts s came-to in
-          (st .test, h, cc)
-
-      by-split : (M : ℕ) (x : State) → L ≤ M → (y : State) × (walk M start (st .before) ≡ came y) × (walk M y (bang ∷ []) ≡ came x)
-          → (k : Name) × (h : Hole factor) × (s ≡ operand k h)
-      by-split M x l (y, f, g) = by-want M y l f (wanted M y x g)
-
-      by-bang : (M : ℕ) × (s : State) × (L ≤ M) × (walk M start (st .before ++ (bang ∷ [])) ≡ came s) → (k : Name) × (h : Hole factor) × (s ≡ operand k h)
-      by-bang (M, x, l, e) = by-split M x l (walk-split M start (st .before) (bang ∷ []) x e)
-
   -- a token that the state refuses, whatever the limit, is allowed by no continuation
   dead : (t : Token) (w : Why) → ((M : ℕ) → step M s t ≡ stop w) → Alive (ts ++ (t ∷ [])) → ⊥
   dead t w f a = by-walk (alive-reached L (ts ++ (t ∷ [])) a)
@@ -115,13 +101,11 @@ module _ (L : ℕ) (ts : List Token) (s : State) (came-to : walk L start ts ≡ 
 -- what a step says of the tokens up to there
 abbrev Stepped : ℕ → List Token → Token → Step → Type 0
 Stepped L ts t (go s) = walk L start (ts ++ (t ∷ [])) ≡ came s
-Stepped L ts t (stop bad) = (Alive (ts ++ (t ∷ [])) → ⊥) × (Stands ts t → ⊥)
-Stepped L ts t (stop broken) = (Alive (ts ++ (t ∷ [])) → ⊥) × Stands ts t
-Stepped L ts t (stop deep) = Open (ts ++ (t ∷ [])) (suc L) × Opener t
+Stepped L ts t (stop w) = Has L ts t (numberOf (refusalOf w))
 
 -- every step says so
 stepped : (L : ℕ) (ts : List Token) (s : State) (t : Token) → walk L start ts ≡ came s → Stepped L ts t (step L s t)
-unfolding step admit walk level depth
+unfolding step admit walk level depth numberOf
 stepped L ts s t e = by-move (move s t) refl (move-at ts s t (walk-at L ts s e)) (move-level s t) (ltb (level s) L) refl
   where
     came-on : (M : ℕ) (x : State) → L ≤ M → step M s t ≡ go x → walk M start (ts ++ (t ∷ [])) ≡ came x
@@ -134,15 +118,20 @@ stepped L ts s t e = by-move (move s t) refl (move-at ts s t (walk-at L ts s e))
         let i : level s ≤ L = walk-within L start ts s (omega arith) e in
         let j : L ≤ level s = ltb-false _ _ q in
         let k : level x ≡ suc L = omega arith in
-        (rw (← k) (opened (suc L) (ts ++ (t ∷ [])) x (came-on (suc L) x (omega arith) (step-opens (suc L) s x t p (omega arith)))), o)
-    by-move stuck p w v b q = (
-      dead L ts s e t bad (λ M. ap (admit (ltb (level s) M)) p),
-      λ st. let (k, h, z) = operand-there L ts s e st in
-          operand-unstuck k h (st .operand) (rw z at p),
-    )
-    by-move breaks p (k, h, v, i, o) u b q = (dead L ts s e t broken (λ M. ap (admit (ltb (level s) M)) p), stands ts t k h v i o)
+        too-deep o (rw (← k) (opened (suc L) (ts ++ (t ∷ [])) x (came-on (suc L) x (omega arith) (step-opens (suc L) s x t p (omega arith)))))
+    by-move stuck p w v b q =
+        bad-token (dead L ts s e t bad (λ M. ap (admit (ltb (level s) M)) p))
+        (λ st. let (h, z) = operand-there L ts s e st in
+        operand-unstuck (st .test) h (st .operand) (rw z at p))
+    by-move breaks p (k, h, v, i, o, n) u b q = let (st, f) = breaks-rule ts t k h v i o n in bad-operand st f
 
 -- ---- the answer is one that the words give
+
+-- what the words say of an answer: for the tokens ts, with at most L levels open at once
+pub data Judged (L : ℕ) : List Token → Answer → Type 0 where
+  reads : {ts : List Token} {r : Reading} (d : Reads expression ts r) → ((n : ℕ) → openAt d n ≤ L) → Judged L ts (ok r)
+  at-token : (ts : List Token) (t : Token) (us : List Token) {w : Why} → Leads L ts → Has L ts t (numberOf (refusalOf w)) → Judged L (ts ++ (t ∷ us)) (refused w (t ∷ us))
+  bad-end : {ts : List Token} → Leads L ts → ((r : Reading) → Reads expression ts r → ⊥) → Judged L ts (refused bad [])
 
 -- the end, and the rest of the tokens, by the state
 judged-end : (L : ℕ) (ts : List Token) (s : State) → walk L start ts ≡ came s → Judged L ts (conclude (finish s))
@@ -158,7 +147,7 @@ judged-end L ts s e = by-end (finish s) refl (finish-at ts s (walk-at L ts s e))
 
     by-end : (o : Option Reading) → finish s ≡ o → Ended ts o → Judged L ts (conclude o)
     by-end none p w = bad-end (leads L ts s e) (none-derived p)
-    by-end (some r) p w = reads w (levels-within L ts s e w)
+    by-end (some r) p w = reads w (levels-open w L .0 (levels-within L ts s e w))
 
 walk-judged : (L : ℕ) (ts : List Token) (s : State) (us : List Token) → walk L start ts ≡ came s → Judged L (ts ++ us) (answered (walk L s us))
 unfolding walk follow answered
@@ -168,9 +157,7 @@ walk-judged L ts s (t ∷ us) e = by-step (step L s t) (stepped L ts s t e) (λ 
     by-step : (x : Step) → Stepped L ts t x → ((vs : List Token) (y : State) → walk L start vs ≡ came y → Judged L (vs ++ us) (answered (walk L y us)))
         → Judged L (ts ++ (t ∷ us)) (answered (follow x (λ y. walk L y us) (t ∷ us)))
     by-step (go y) w f = rw (append-assoc ts (t ∷ []) us) at (f (ts ++ (t ∷ [])) y w)
-    by-step (stop bad) w f = bad-token ts t us (leads L ts s e) (w .0) (w .1)
-    by-step (stop broken) w f = bad-operand ts t us (leads L ts s e) (w .0) (w .1)
-    by-step (stop deep) w f = too-deep ts t us (leads L ts s e) (w .0)
+    by-step (stop y) w f = at-token ts t us (leads L ts s e) w
 
 -- the words give the reader's answer
 pub judged : (L : ℕ) (ts : List Token) → Judged L ts (read L ts)
@@ -188,39 +175,15 @@ stops L ts t us w l f = by-walk (leads-reached L ts l)
     by-walk : (s : State) × (walk L start ts ≡ came s) → answered (walk L start (ts ++ (t ∷ us))) ≡ refused w (t ∷ us)
     by-walk (s, e) = ap answered (walk-join L start ts (t ∷ us) s e ∙ walk-stop L s w t us (f (step L s t) (stepped L ts s t e)))
 
--- a level too many is open after no tokens that are walked within the limit
-pub not-deeper : (L : ℕ) (ts : List Token) (s : State) → walk L start ts ≡ came s → Open ts (suc L) → ⊥
-unfolding level depth
-not-deeper L ts s e o =
-    let i : level s ≤ L = walk-within L start ts s (omega arith) e in
-    let j : suc L ≡ level s = open-one o (opened L ts s e) in
-    omega arith
-
 -- what the words give is the reader's answer
 pub only : (L : ℕ) {ts : List Token} {a : Answer} → Judged L ts a → read L ts ≡ a
 unfolding read answered conclude
 only L (reads d l) = complete L d l
-only L (bad-token ts t us l no-more no-operand) = stops L ts t us bad l by-step
+only L (at-token ts t us {w} l h) = stops L ts t us w l by-step
   where
-    by-step : (x : Step) → Stepped L ts t x → x ≡ stop bad
-    by-step (go s) w = absurd (no-more (leads-alive (leads L _ s w)))
-    by-step (stop bad) w = refl
-    by-step (stop broken) w = absurd (no-operand (w .1))
-    by-step (stop deep) w = absurd (no-more (open-alive (w .0)))
-only L (bad-operand ts t us l no-more st) = stops L ts t us broken l by-step
-  where
-    by-step : (x : Step) → Stepped L ts t x → x ≡ stop broken
-    by-step (go s) w = absurd (no-more (leads-alive (leads L _ s w)))
-    by-step (stop bad) w = absurd (w .1 st)
-    by-step (stop broken) w = refl
-    by-step (stop deep) w = absurd (no-more (open-alive (w .0)))
-only L (too-deep ts t us l o) = stops L ts t us deep l by-step
-  where
-    by-step : (x : Step) → Stepped L ts t x → x ≡ stop deep
-    by-step (go s) w = absurd (not-deeper L (ts ++ (t ∷ [])) s w o)
-    by-step (stop bad) w = absurd (w .0 (open-alive o))
-    by-step (stop broken) w = absurd (w .0 (open-alive o))
-    by-step (stop deep) w = refl
+    by-step : (x : Step) → Stepped L ts t x → x ≡ stop w
+    by-step (go s) e = absurd (has-ends h (leads L _ s e))
+    by-step (stop v) g = ap stop (why-once v w (has-once g h))
 only L (bad-end {ts} l none-of) = by-walk (leads-reached L ts l)
   where
     by-end : (o : Option Reading) → Ended ts o → conclude o ≡ refused bad []
@@ -230,52 +193,19 @@ only L (bad-end {ts} l none-of) = by-walk (leads-reached L ts l)
     by-walk : (s : State) × (walk L start ts ≡ came s) → answered (walk L start ts) ≡ refused bad []
     by-walk (s, e) = ap answered e ∙ by-end (finish s) (finish-at ts s (walk-at L ts s e))
 
--- ---- what is refused is the first
+-- ---- what leads on
 
--- tokens after which a level too many is open don't lead on
-pub deep-ends : {L : ℕ} {ts : List Token} → Open ts (suc L) → Leads L ts → ⊥
-deep-ends {L} {ts} o l = by-walk (leads-reached L ts l)
+-- tokens lead on exactly when none of them has a number
+pub leads-exactly : (L : ℕ) (ts : List Token) → Leads L ts ↔ ((xs ys : List Token) (u : Token) (n : ℕ) → ts ≡ xs ++ (u ∷ ys) → Has L xs u n → ⊥)
+leads-exactly L ts = (forth, back (judged L ts))
   where
-    by-walk : (s : State) × (walk L start ts ≡ came s) → ⊥
-    by-walk (s, e) = not-deeper L ts s e o
+    forth : Leads L ts → (xs ys : List Token) (u : Token) (n : ℕ) → ts ≡ xs ++ (u ∷ ys) → Has L xs u n → ⊥
+    forth l xs ys u n e h = has-ends h (earlier (xs ++ (u ∷ [])) ys (rw (append-assoc xs (u ∷ []) ys, ← e) l))
 
--- what opens a level too many is `(` or `!`
-pub deep-opener : {L : ℕ} {ts : List Token} {t : Token} → Leads L ts → Open (ts ++ (t ∷ [])) (suc L) → Opener t
-deep-opener {L} {ts} {t} l o = by-walk (leads-reached L ts l)
-  where
-    by-step : (x : Step) → Stepped L ts t x → Opener t
-    by-step (go s) w = absurd (not-deeper L (ts ++ (t ∷ [])) s w o)
-    by-step (stop bad) w = absurd (w .0 (open-alive o))
-    by-step (stop broken) w = absurd (w .0 (open-alive o))
-    by-step (stop deep) w = w .1
-
-    by-walk : (s : State) × (walk L start ts ≡ came s) → Opener t
-    by-walk (s, e) = by-step (step L s t) (stepped L ts s t e)
-
--- the first token that is refused, or the end: each beginning before it leads on, and none with it
-pub record First (L : ℕ) (ts us : List Token) : Type 0 where
-  pub front : List Token
-  pub joined : ts ≡ front ++ us
-  pub before : (xs ys : List Token) → front ≡ xs ++ ys → Leads L xs
-  pub with-it : (t : Token) (more : List Token) → us ≡ t ∷ more → Leads L (front ++ (t ∷ [])) → ⊥
-
--- a token after what leads on, with which nothing does
-first-token : {L : ℕ} (ts : List Token) (t : Token) (us : List Token) → Leads L ts → (Leads L (ts ++ (t ∷ [])) → ⊥) → First L (ts ++ (t ∷ us)) (t ∷ us)
-first-token {L} ts t us l f = record {
-  front = ts;
-  joined = refl;
-  before = λ xs ys e. earlier xs ys (rw e at l);
-  with-it = λ x more e m. f (rw (head-eq-of-cons-eq e) m);
-}
-
--- what is refused is the first that is
-pub refused-first : {L : ℕ} {ts us : List Token} {w : Why} → Judged L ts (refused w us) → First L ts us
-refused-first (bad-token ts t us l f g) = first-token ts t us l (λ m. f (leads-alive m))
-refused-first (bad-operand ts t us l f g) = first-token ts t us l (λ m. f (leads-alive m))
-refused-first (too-deep ts t us l o) = first-token ts t us l (deep-ends o)
-refused-first (bad-end {ts} l f) = record {
-  front = ts;
-  joined = sym (append-nil ts);
-  before = λ xs ys e. earlier xs ys (rw e at l);
-  with-it = λ t more e m. absurd (nil≢cons e);
-}
+    back : {us : List Token} {a : Answer} → Judged L us a → ((xs ys : List Token) (u : Token) (n : ℕ) → us ≡ xs ++ (u ∷ ys) → Has L xs u n → ⊥) → Leads L us
+    back (reads {ts = us} {r} d w) f = by-end (rw (append-nil us) (d, w))
+      where
+        by-end : (e : Reads expression (us ++ []) r) × ((n : ℕ) → openAt e n ≤ L) → Leads L us
+        by-end (e, v) = record { more = []; reading = r; reads = e; within = v }
+    back (at-token xs u ys l h) f = absurd (f xs ys u _ refl h)
+    back (bad-end l n) f = l

@@ -27,12 +27,12 @@ said-each P v s = rw (s .word, s .role) at (every-place v (record { word = []; r
 -- ---- words can be written
 
 -- every byte is one of words, as a test
-wordly : List ℕ → Bool
+unfoldable pub wordly : List ℕ → Bool
 wordly [] = true
 wordly (b ∷ bs) = pick (pick (leb 45 b) (leb b 126) false) (wordly bs) false
 
 -- what passes is wordly
-wordly-sound : (l : List ℕ) → wordly l ≡ true → texts.Every Wordly l
+pub wordly-sound : (l : List ℕ) → wordly l ≡ true → texts.Every Wordly l
 unfolding wordly
 wordly-sound [] e = none
 wordly-sound (b ∷ bs) e =

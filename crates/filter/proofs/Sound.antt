@@ -1,5 +1,6 @@
 -- What is read is derived. `Before` says which tokens lead to a hole, `At` which lead to a state. Assumes nothing.
 use Prim.Native.Nat.{ℕ, _≤_}
+use native.Mathlib.Omega.{arith}
 use mathlib.Core.Path.{_≡_, refl, _∙_}
 use mathlib.Core.Bool.{Bool, true, false}
 use mathlib.Core.Option.{Option, none, some}
@@ -9,14 +10,14 @@ use Rattle.program.specs.Readings.{Test, and, or, Reading}
 use Rattle.token.specs.Tokens.{Word, Token, open′, close, bang, word, quoted}
 use Rattle.filter.specs.Words.{Role, joins, flag, name, Says}
 use Rattle.filter.specs.Grammar.{Operand, a-word, a-quoted, Part, expression, conjunction, factor, Reads, flagged, tested, negated, grouped, single, anded, lone, ored}
-use Rattle.filter.specs.Levels.{levels}
+use Rattle.filter.specs.Levels.{openAt}
 use Rattle.filter.proofs.Walks.{no-ok}
 use Rattle.filter.specs.Reader.{Hole, whole, grouping, first, oring, head, anding, negating, State, want, operand, have, level, Move, takes, opens, stuck, breaks, Way, came, stopped, ok, settle, outer, again, leave, end, begin, fill, join, admit, follow, finish, conclude, answered, start, move, step, walk, read}
+use Rattle.filter.proofs.Counts.{levels-open}
 use Rattle.filter.proofs.Agree.{levels-within}
 use Rattle.operand.specs.declared.Name.{Name}
-use Rattle.operand.specs.Tests.{StandsFor}
-use Rattle.operand.specs.Tests.{meaning}
-use Rattle.operand.proofs.Meanings.{meaning-sound}
+use Rattle.operand.specs.Tests.{StandsFor, meaning}
+use Rattle.operand.proofs.Meanings.{meaning-sound, meaning-complete}
 use Rattle.filter.specs.Words.{roleOf}
 use Rattle.filter.proofs.Roles.{role-said}
 
@@ -60,7 +61,7 @@ abbrev pub Moved : List Token → Token → Move → Type 0
 Moved ts t (takes s) = At (ts ++ (t ∷ [])) s
 Moved ts t (opens s) = At (ts ++ (t ∷ [])) s
 Moved ts t stuck = Unit {0}
-Moved ts t breaks = (k : Name) × (h : Hole factor) × (v : Word) × At ts (operand k h) × Operand t v
+Moved ts t breaks = (k : Name) × (h : Hole factor) × (v : Word) × At ts (operand k h) × Operand t v × ((x : Test) → StandsFor k v x → ⊥)
 
 abbrev pub Ended : List Token → Option Reading → Type 0
 Ended ts none = Unit {0}
@@ -89,7 +90,7 @@ finish-at ts (operand k h) a = tt
 finish-at ts (have r h) a = end-at (outer r h) (outer-at a)
 
 -- no tokens lead to the start
-pub at-start : At [] start
+at-start : At [] start
 at-start = at-head (at-first at-whole)
 
 -- what a word and an operand lead to
@@ -102,10 +103,10 @@ begin-at ts h w b (some (joins o)) q = tt
 begin-at ts h w b none q = tt
 
 fill-at : (ts : List Token) (k : Name) (h : Hole factor) (o : Token) (v : Word) → Operand o v → At ts (operand k h)
-    → (x : Option Test) → ((y : Test) → x ≡ some y → StandsFor k v y) → Moved ts o (fill h x)
+    → (x : Option Test) → ((y : Test) → x ≡ some y → StandsFor k v y) → ((y : Test) → StandsFor k v y → x ≡ some y) → Moved ts o (fill h x)
 unfolding fill
-fill-at ts k h o v a i none m = (k, h, v, i, a)
-fill-at ts k h o v a (us, w, e, q, b) (some x) m = rw (e, append-assoc us (word w ∷ []) (o ∷ [])) (settle-at b (tested q a (m x refl)))
+fill-at ts k h o v a i none m n = (k, h, v, i, a, λ y s. let z : _≡_ {A = ℕ} 0 1 = cc (n y s) in omega arith)
+fill-at ts k h o v a (us, w, e, q, b) (some x) m n = rw (e, append-assoc us (word w ∷ []) (o ∷ [])) (settle-at b (tested q a (m x refl)))
 
 join-at : (ts : List Token) (r : Reading) (h : Hole conjunction) (w : Word) → Had conjunction ts r h
     → (x : Option Role) → ((y : Role) → x ≡ some y → Says w y) → Moved ts (word w) (join r h x)
@@ -129,8 +130,8 @@ move-at ts (want h) (quoted v) a = tt
 move-at ts (operand k h) open′ a = tt
 move-at ts (operand k h) bang a = tt
 move-at ts (operand k h) close a = tt
-move-at ts (operand k h) (word v) a = fill-at ts k h (word v) v a-word a (meaning k v) (λ y e. meaning-sound k v e)
-move-at ts (operand k h) (quoted v) a = fill-at ts k h (quoted v) v a-quoted a (meaning k v) (λ y e. meaning-sound k v e)
+move-at ts (operand k h) (word v) a = fill-at ts k h (word v) v a-word a (meaning k v) (λ y e. meaning-sound k v e) (λ y s. meaning-complete s)
+move-at ts (operand k h) (quoted v) a = fill-at ts k h (quoted v) v a-quoted a (meaning k v) (λ y e. meaning-sound k v e) (λ y s. meaning-complete s)
 move-at ts (have r h) open′ a = tt
 move-at ts (have r h) bang a = tt
 move-at ts (have r h) close a = leave-at (outer r h) (outer-at a)
@@ -173,8 +174,8 @@ module _ (L : ℕ) where
       by-way (stopped y us) p q = no-ok (answered (stopped y us)) q refl
 
   -- what is read is derived so, within the limit
-  pub sound : (ts : List Token) {r : Reading} → read L ts ≡ ok r → (d : Reads expression ts r) × (levels d ≤ L)
+  pub sound : (ts : List Token) {r : Reading} → read L ts ≡ ok r → (d : Reads expression ts r) × ((n : ℕ) → openAt d n ≤ L)
   sound ts {r} e = by-walk (ok-walks ts r e)
     where
-      by-walk : (s : State) × (walk L start ts ≡ came s) × (finish s ≡ some r) → (d : Reads expression ts r) × (levels d ≤ L)
-      by-walk (s, p, q) = (ended ts s p q, levels-within L ts s p (ended ts s p q))
+      by-walk : (s : State) × (walk L start ts ≡ came s) × (finish s ≡ some r) → (d : Reads expression ts r) × ((n : ℕ) → openAt d n ≤ L)
+      by-walk (s, p, q) = (ended ts s p q, levels-open _ L .0 (levels-within L ts s p (ended ts s p q)))

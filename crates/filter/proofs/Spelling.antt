@@ -1,4 +1,4 @@
--- Every list of tokens that can be written is written by some text: each token, then a space. Assumes nothing.
+-- Tokens of bytes 45 to 126, and quoted ones of printed bytes, enough to write every reading: the text that spells them, a space behind each. Assumes nothing.
 use Prim.Native.Nat.{ℕ, suc, _+_, _*_, _≤_}
 use native.Mathlib.Omega.{arith}
 use mathlib.Core.Path.{_≡_, refl, sym, ap}
@@ -12,8 +12,9 @@ use Rattle.program.specs.Layout.{recordSize}
 use Rattle.token.specs.Texts.{textLimit, Blank, space, tab, lineFeed, Allowed, printed, Every, none, more}
 use Rattle.token.specs.Tokens.{Token, open′, close, bang, word, quoted, Mark, opening, closing, banging, Letter, Stops, before, Placed, placed, Lexes, nothing, blanks, marks, words, quotes}
 use Rattle.filter.specs.Grammar.{expression, Reads}
-use Rattle.filter.specs.Levels.{levelLimit, levels}
-use Rattle.filter.specs.Answers.{bare, Derives, compiled, Answers, compiles}
+use Rattle.filter.specs.Levels.{levelLimit, openAt}
+use Rattle.filter.specs.Answers.{bare, DerivedWithin, compiled, Answers, compiles}
+use Rattle.filter.proofs.Counts.{levels, levels-open}
 use Rattle.operand.proofs.FrontReads.{run-append, run-map}
 
 -- a printed byte that is no quote
@@ -27,7 +28,7 @@ pub record Wordly (b : ℕ) : Type 0 where
   pub low : 45 ≤ b
   pub high : b ≤ 126
 
--- a token that can be written: the bytes of a word are wordly, and there is one; those of a quoted token are plain
+-- the bytes of a word are wordly, and there is one; those of a quoted token are plain
 abbrev pub Proper : Token → Type 0
 Proper open′ = Unit {0}
 Proper close = Unit {0}
@@ -55,7 +56,7 @@ spell-append [] us = refl
 spell-append (t ∷ ts) us = rw (spell-append ts us) (sym (append-assoc (spelled t) (32 ∷ spell ts) (spell us)))
 
 -- their places, the first at n
-positioned : ℕ → List Token → List Placed
+pub positioned : ℕ → List Token → List Placed
 positioned n [] = []
 positioned n (t ∷ ts) = placed n t ∷ positioned (suc (n + length (spelled t))) ts
 
@@ -76,7 +77,7 @@ wordly-letter b w = record { no-blank = by-blank w; no-mark = by-mark w; no-quot
 -- ---- tokens
 
 -- a space ends a word
-space-stops : {bs : List ℕ} → Stops (32 ∷ bs)
+pub space-stops : {bs : List ℕ} → Stops (32 ∷ bs)
 space-stops = before (λ l. l .no-blank space)
 
 -- a space before what is written with tokens
@@ -99,13 +100,13 @@ token-lexes (quoted v) p n {bs} d =
     (ap (λ (l : List ℕ). 39 ∷ l) (append-assoc v (39 ∷ []) (32 ∷ bs)))
 
 -- a text that is spelled has those tokens
-spell-lexes : {ts : List Token} → list.Every Proper ts → (n : ℕ) → Lexes n (spell ts) (positioned n ts)
+pub spell-lexes : {ts : List Token} → list.Every Proper ts → (n : ℕ) → Lexes n (spell ts) (positioned n ts)
 unfolding spell positioned
 spell-lexes every-none n = nothing
 spell-lexes (every-more {a = t} p ps) n = token-lexes t p n (spell-lexes ps (suc (n + length (spelled t))))
 
 -- the places come off again
-bare-positioned : (n : ℕ) (ts : List Token) → bare (positioned n ts) ≡ ts
+pub bare-positioned : (n : ℕ) (ts : List Token) → bare (positioned n ts) ≡ ts
 unfolding bare positioned
 bare-positioned n [] = refl
 bare-positioned n (t ∷ ts) = ap (λ (us : List Token). t ∷ us) (bare-positioned (suc (n + length (spelled t))) ts)
@@ -113,7 +114,7 @@ bare-positioned n (t ∷ ts) = ap (λ (us : List Token). t ∷ us) (bare-positio
 -- ---- bytes
 
 -- a printed byte may stand in a text
-seen : (b : ℕ) → 32 ≤ b → b ≤ 126 → Allowed b
+pub seen : (b : ℕ) → 32 ≤ b → b ≤ 126 → Allowed b
 seen b l h = printed l h
 
 -- the bytes of a token may
@@ -127,7 +128,7 @@ token-allowed (quoted v) p =
     more (seen 39 (omega arith) (omega arith)) (run-append (run-map (λ b q. seen b (q .low) (q .high)) p) (more (seen 39 (omega arith) (omega arith)) none))
 
 -- a text that is spelled has allowed bytes
-spell-allowed : {ts : List Token} → list.Every Proper ts → Every Allowed (spell ts)
+pub spell-allowed : {ts : List Token} → list.Every Proper ts → Every Allowed (spell ts)
 unfolding spell
 spell-allowed every-none = none
 spell-allowed (every-more {a = t} p ps) = run-append (token-allowed t p) (more (seen 32 (omega arith) (omega arith)) (spell-allowed ps))
@@ -139,8 +140,8 @@ pub spelled-compiles : {ts : List Token} {r : Reading} (d : Reads expression ts 
     → length (spell ts) ≤ textLimit → weight r ≤ weightLimit → Answers (spell ts) (recordSize * weightLimit) (compiled r)
 spelled-compiles {ts} {r} d l p s w = compiles (record { short = s; allowed = spell-allowed p }) (by-tokens (bare-positioned 0 ts)) w (omega arith)
   where
-    with-tokens : (e : Reads expression (bare (positioned 0 ts)) r) × (levels e ≤ levelLimit) → Derives (spell ts) r
-    with-tokens (e, k) = record { tokens = positioned 0 ts; lexed = spell-lexes p 0; reads = e; within = k }
+    with-tokens : (e : Reads expression (bare (positioned 0 ts)) r) × ((n : ℕ) → openAt e n ≤ levelLimit) → DerivedWithin (spell ts) r
+    with-tokens (e, k) = record { derived = record { tokens = positioned 0 ts; lexed = spell-lexes p 0; reads = e }; within = k }
 
-    by-tokens : bare (positioned 0 ts) ≡ ts → Derives (spell ts) r
-    by-tokens e = with-tokens (rw e (d, l))
+    by-tokens : bare (positioned 0 ts) ≡ ts → DerivedWithin (spell ts) r
+    by-tokens e = with-tokens (rw e (d, levels-open d levelLimit .0 l))

@@ -2,26 +2,23 @@
 use Prim.Native.Nat.{ℕ, _+_, _≤_, _<_}
 use native.Mathlib.Omega.{arith}
 use mathlib.Core.Path.{_≡_, refl, sym, ap, _∙_}
-use mathlib.Core.Bool.{true, false}
-use mathlib.Core.Option.{some, none}
+use mathlib.Core.Option.{some}
 use mathlib.Core.List.{List, [], _∷_, _++_, append-assoc}
 use lib.ListN.{length}
-use lib.Dec.{ltb}
 use borrow.Author.Tests.{le-ltb}
 use Rattle.token.specs.Texts.{textLimit}
 use Rattle.filter.specs.Levels.{levelLimit}
 use Rattle.token.specs.Tokens.{Token, Placed, placed}
-use Rattle.token.specs.Next.{left, Closed, nextAt, tokenIn}
+use Rattle.token.specs.Next.{Closed, nextAt, tokenIn}
 use Rattle.token.specs.declared.Kind.the-variants.{End}
 use Rattle.token.specs.declared.Lexeme.{Lexeme}
 use Rattle.token.proofs.Nexts.{Took, next-end, next-token}
 use Rattle.token.proofs.Again.{next-again, left-again, closed-again, next-after}
 use Rattle.filter.specs.Grammar.{Part}
 use Rattle.filter.specs.Answers.{bare}
-use Rattle.filter.specs.Reader.{Hole, depth, State, level, Why, bad, broken, deep, Move, takes, opens, stuck, breaks, Answer, refused, conclude, finish, answered, admit, move, step, stop, walk}
+use Rattle.filter.specs.Reader.{Hole, depth, State, level, Why, bad, broken, deep, takes, opens, stuck, breaks, refused, conclude, finish, answered, admit, move, step, stop, walk}
 use Rattle.filter.specs.Answering.{refusalOf, startOf}
 use Rattle.filter.specs.Parsing.{from, run, begins, Ready, Passed, Stopped}
-use Rattle.filter.specs.declared.Refusal.{Refusal}
 use Rattle.filter.proofs.Walks.{walk-takes, walk-go, walk-stop, step-opens}
 
 -- the first token is ready

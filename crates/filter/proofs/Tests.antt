@@ -37,12 +37,11 @@ use Rattle.operand.proofs.Meanings.{meaning-sound}
 use Rattle.operand.proofs.OperandItems.{items-short}
 use Rattle.operand.proofs.OperandPatterns.{pattern-complete}
 use Rattle.filter.specs.Words.{Role, joins, flag, name, roleOf}
-use Rattle.filter.specs.Grammar.{Part, factor}
+use Rattle.filter.specs.Grammar.{factor}
 use Rattle.filter.specs.Answers.{bare}
 use Rattle.filter.specs.Reader.{Hole, State, want, operand, Why, bad, broken, stuck, refused, settle, begin, fill, conclude, finish, move}
-use Rattle.filter.specs.Answering.{refusalOf, startOf}
-use Rattle.filter.specs.Parsing.{roleSaid, operandKind, opensLevel, roleIn, from, run, begins, Stood, Over, Ready, Passed, Read, Stopped, Says, TestSays}
-use Rattle.filter.specs.declared.Refusal.{Refusal}
+use Rattle.filter.specs.Answering.{refusalOf}
+use Rattle.filter.specs.Parsing.{roleSaid, operandKind, opensLevel, roleIn, from, run, begins, Stood, Over, Ready, Passed, TestSays}
 use Rattle.filter.specs.declared.Refusal.the-variants as refusals
 use Rattle.filter.specs.declared.Parsed.the-variants.{Upto, Refused}
 use Rattle.filter.specs.declared.Role.{Role as Said}
@@ -50,7 +49,7 @@ use Rattle.filter.specs.declared.Role.the-variants as said
 use Rattle.filter.proofs.Role.{the-type as role-type}
 use Rattle.operand.proofs.OperandPatterns.{items-in}
 use Rattle.filter.proofs.Parts.{start-here, says-read, says-stopped}
-use Rattle.filter.proofs.Steps.{ready-next, next-behind, token-within, from-next, fewer-next, end-none, run-none, run-takes, run-stuck, run-breaks, start-token, start-end, stopped-here, passed-next, passed-both}
+use Rattle.filter.proofs.Steps.{ready-next, next-behind, token-within, from-next, fewer-next, end-none, run-none, run-takes, run-stuck, run-breaks, stopped-here, passed-next, passed-both}
 
 -- ---- answers of the grammar functions
 

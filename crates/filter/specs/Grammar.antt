@@ -1,10 +1,8 @@
 -- The grammar over tokens: which lists of tokens are expressions, and what each reads as. There is no parser here.
-use Prim.Native.Nat.{ℕ, suc, max}
-use mathlib.Core.Path.{_≡_}
 use mathlib.Core.List.{List, [], _∷_, _++_}
-use Rattle.program.specs.Readings.{Test, Operator, and, or, Reading, test, neg, joint}
+use Rattle.program.specs.Readings.{Test, and, or, Reading, test, neg, joint}
 use Rattle.token.specs.Tokens.{Word, Token, open′, close, bang, word, quoted}
-use Rattle.filter.specs.Words.{Role, joins, flag, name, Says}
+use Rattle.filter.specs.Words.{joins, flag, name, Says}
 use Rattle.operand.specs.declared.Name.{Name}
 use Rattle.operand.specs.Tests.{StandsFor}
 
@@ -13,6 +11,7 @@ pub data Operand : Token → Word → Type 0 where
   a-word : {v : Word} → Operand (word v) v
   a-quoted : {v : Word} → Operand (quoted v) v
 
+-- what the grammar derives
 pub data Part : Type 0 where
   expression conjunction factor : Part
 

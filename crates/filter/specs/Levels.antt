@@ -1,5 +1,5 @@
 -- A level (the paper's term) is a `(` or `!` whose factor is unfinished.
-use Prim.Native.Nat.{ℕ, zero, suc, _+_, _-_, max}
+use Prim.Native.Nat.{ℕ, zero, suc, _+_, _-_}
 use mathlib.Core.Path.{_≡_}
 use mathlib.Core.List.{List, _++_}
 use lib.ListN.{length}
@@ -32,14 +32,3 @@ pub record Open (ts : List Token) (levels : ℕ) : Type 0 where
   pub reading : Reading
   pub reads : Reads expression (ts ++ more) reading
   pub counted : openAt reads (length ts) ≡ levels
-
--- how many levels are open at once, at most, in what is read so
-unfoldable pub levels : {p : Part} {ts : List Token} {r : Reading} → Reads p ts r → ℕ
-levels (flagged q) = 0
-levels (tested q o m) = 0
-levels (negated f) = suc (levels f)
-levels (grouped e) = suc (levels e)
-levels (single f) = levels f
-levels (anded w c q f) = max (levels c) (levels f)
-levels (lone c) = levels c
-levels (ored w e q c) = max (levels e) (levels c)

@@ -6,13 +6,13 @@ use mathlib.Core.Option.{Option, some, none}
 use mathlib.Core.List.{List, [], _∷_, _++_}
 use lib.ListN.{length, drop}
 use lib.Seq.{sets}
-use Rattle.program.specs.Readings.{hasLoop, hasBogon, Operator, and, or, Reading, weight}
+use Rattle.program.specs.Readings.{hasLoop, hasBogon, and, or, Reading, weight}
 use Rattle.program.specs.Layout.{recordSize}
 use Rattle.program.specs.Compiling.{programOf}
 use Rattle.token.specs.Texts.{textLimit}
 use Rattle.filter.specs.Levels.{levelLimit}
 use Rattle.token.specs.Tokens.{Token, open′, close, bang, word, quoted, Placed}
-use Rattle.token.specs.Next.{left, Closed, nextAt, tokenIn}
+use Rattle.token.specs.Next.{left, Closed, nextAt}
 use Rattle.token.specs.declared.Kind.{Kind}
 use Rattle.token.specs.declared.Kind.the-variants.{End, Open, Close, Bang, Word, Quoted, Unclosed}
 use Rattle.token.specs.declared.Lexeme.{Lexeme}
@@ -138,15 +138,17 @@ pub record Stopped (p : Part) (text : List ℕ) (level : ℕ) (t : Lexeme) (refu
   pub there : startOf (length text) rest ≡ place
   pub stops : (h : Hole p) → depth h ≡ level → run (begins p h) (from text t) ≡ refused why (bare rest)
 
-pub record Says (p : Part) (text : List ℕ) (level : ℕ) (t : Lexeme) (n : ℕ) (old : List ℕ) (r : Parsed) (new : List ℕ) : Type 0 where
+-- what the function of a part says of its answer: a part was read up to there, and goes on no further; or it is refused
+pub record PartSays (p : Part) (text : List ℕ) (level : ℕ) (t : Lexeme) (n : ℕ) (old : List ℕ) (r : Parsed) (new : List ℕ) : Type 0 where
   pub upto : (u : Lexeme) (m : ℕ) → r ≡ Upto u m → Read p text level t n old u m new
   pub over : (u : Lexeme) (m : ℕ) → r ≡ Upto u m → Over p (from text u)
   pub refused : (k : Refusal) (q : ℕ) → r ≡ Refused k q → Stopped p text level t k q
 
 -- the same for a test, whatever levels are open
 pub record TestSays (text : List ℕ) (t : Lexeme) (n : ℕ) (old : List ℕ) (r : Parsed) (new : List ℕ) : Type 0 where
-  pub says : (level : ℕ) → Says factor text level t n old r new
+  pub says : (level : ℕ) → PartSays factor text level t n old r new
 
+-- a whole text is read, and its records were laid over the buffer as far as it reaches
 pub record WholeRead (text old : List ℕ) (m : ℕ) (new : List ℕ) : Type 0 where
   pub reading : Reading
   pub reads : read levelLimit (bare (left text 0)) ≡ ok reading
@@ -154,6 +156,7 @@ pub record WholeRead (text old : List ℕ) (m : ℕ) (new : List ℕ) : Type 0 w
   pub light : m ≤ length text
   pub wrote : new ≡ sets old 0 (programOf reading)
 
+-- a whole text is refused at a place
 pub record WholeStopped (text : List ℕ) (k : Refusal) (place : ℕ) : Type 0 where
   pub why : Why
   pub rest : List Token
@@ -161,7 +164,7 @@ pub record WholeStopped (text : List ℕ) (k : Refusal) (place : ℕ) : Type 0 w
   pub named : refusalOf why ≡ k
   pub there : placeOf (length text) (left text 0) rest ≡ place
 
--- a whole text: its reading, with the records laid over the buffer as far as it reaches; or where it is refused
+-- a whole text: read, or refused
 pub record Whole (text : List ℕ) (old : List ℕ) (r : Parsed) (new : List ℕ) : Type 0 where
   pub upto : (u : Lexeme) (m : ℕ) → r ≡ Upto u m → WholeRead text old m new
   pub refused : (k : Refusal) (q : ℕ) → r ≡ Refused k q → WholeStopped text k q

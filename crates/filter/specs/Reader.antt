@@ -53,6 +53,7 @@ pub data Move : Type 0 where
   takes opens : State → Move
   stuck breaks : Move
 
+-- the reader goes on in a state, or stops
 pub data Step : Type 0 where
   go : State → Step
   stop : Why → Step
@@ -122,28 +123,34 @@ admit false (opens s) = stop deep
 admit room stuck = stop bad
 admit room breaks = stop broken
 
+-- past a step: on from its state, or stopped at these tokens
 unfoldable pub follow : Step → (State → Way) → List Token → Way
 follow (go s) k us = k s
 follow (stop w) k us = stopped w us
 
+-- the end comes: the reading, if the state may end
 unfoldable pub finish : State → Option Reading
 unfolding end outer
 finish (want h) = none
 finish (operand k h) = none
 finish (have r h) = end (outer r h)
 
+-- an end that is none is refused
 unfoldable pub conclude : Option Reading → Answer
 conclude none = refused bad []
 conclude (some r) = ok r
 
+-- the answer, where the end comes after a walk
 unfoldable pub answered : Way → Answer
 unfolding conclude finish
 answered (came s) = conclude (finish s)
 answered (stopped w ts) = refused w ts
 
+-- nothing has been read
 abbrev pub start : State
 start = want (head (first whole))
 
+-- what a token does
 unfoldable pub move : State → Token → Move
 unfolding begin fill join leave outer
 move (want h) open′ = opens (want (head (first (grouping h))))
@@ -163,10 +170,12 @@ move (have r h) (word w) = join r h (roleOf w)
 move (have r h) (quoted v) = stuck
 
 module _ (limit : ℕ) where
+  -- the same, with at most that many levels
   unfoldable pub step : State → Token → Step
   unfolding admit level move
   step s t = admit (ltb (level s) limit) (move s t)
 
+  -- where tokens lead from a state
   unfoldable pub walk : State → List Token → Way
   unfolding step follow
   walk s [] = came s

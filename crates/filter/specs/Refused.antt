@@ -1,36 +1,19 @@
 -- What a refusal of a text says, in words: its number and its place, and that what is refused is the first.
-use Prim.Native.Nat.{ℕ, suc, _≤_, _<_}
+use Prim.Native.Nat.{ℕ}
 use mathlib.Core.Path.{_≡_}
 use mathlib.Core.List.{List, [], _∷_, _++_}
 use lib.ListN.{length}
 use Rattle.program.specs.Readings.{Reading}
-use Rattle.token.specs.Tokens.{Token, open′, bang, Placed, placed, Lexes}
+use Rattle.token.specs.Tokens.{Token, Placed, Lexes}
 use Rattle.filter.specs.Grammar.{expression, Reads}
-use Rattle.filter.specs.Levels.{levelLimit, Open}
-use Rattle.filter.specs.Answers.{Alive, Leads, Stands, bare}
-
--- a `(` or a `!`
-pub data Opener : Token → Type 0 where
-  a-group : Opener open′
-  a-bang : Opener bang
-
--- where a refusal with a number stands: 1, 7 and 8 at the place 0, the others within the text; and 4 also at the text's end
-pub data Placement (text : List ℕ) : ℕ → ℕ → Type 0 where
-  size : Placement text 1 0
-  weight : Placement text 7 0
-  room : Placement text 8 0
-  within : {n p : ℕ} → 2 ≤ n → n ≤ 6 → p < length text → Placement text n p
-  at-end : Placement text 4 (length text)
+use Rattle.filter.specs.Levels.{levelLimit}
+use Rattle.filter.specs.Answers.{Leads, Has, bare, Reaches}
 
 -- t is the first token of the text that is refused, at its place; ts stand before it: every beginning of these leads on, and with t they don't
 pub record FirstToken (text : List ℕ) (ts : List Token) (t : Token) (place : ℕ) : Type 0 where
-  pub front : List Placed
-  pub back : List Placed
-  pub lexed : Lexes 0 text (front ++ (placed place t ∷ back))
-  pub tokens : bare front ≡ ts
+  pub reaches : Reaches text ts t place
   pub leads : (xs ys : List Token) → ts ≡ xs ++ ys → Leads levelLimit xs
   pub ends : Leads levelLimit (ts ++ (t ∷ [])) → ⊥
-  pub within : place < length text
 
 -- every beginning of the text's tokens leads on, but they are no expression
 pub record DeadEnd (text : List ℕ) : Type 0 where
@@ -39,12 +22,7 @@ pub record DeadEnd (text : List ℕ) : Type 0 where
   pub leads : (xs ys : List Token) → bare tokens ≡ xs ++ ys → Leads levelLimit xs
   pub unread : (r : Reading) → Reads expression (bare tokens) r → ⊥
 
--- what 4, 5 and 6 are given for, and where
+-- what 4, 5 and 6 are given for, and where: the first token that has one, or the end
 pub data FirstRefused (text : List ℕ) : ℕ → ℕ → Type 0 where
-  -- 4: no continuation allows the token, and it is no operand; or the end
-  a-token : {ts : List Token} {t : Token} {p : ℕ} → FirstToken text ts t p → (Alive (ts ++ (t ∷ [])) → ⊥) → (Stands ts t → ⊥) → FirstRefused text 4 p
+  a-token : {ts : List Token} {t : Token} {n p : ℕ} → FirstToken text ts t p → Has levelLimit ts t n → FirstRefused text n p
   the-end : DeadEnd text → FirstRefused text 4 (length text)
-  -- 5: no continuation allows the token, and it is an operand
-  an-operand : {ts : List Token} {t : Token} {p : ℕ} → FirstToken text ts t p → (Alive (ts ++ (t ∷ [])) → ⊥) → Stands ts t → FirstRefused text 5 p
-  -- 6: the token is a `(` or a `!`, and opens level 33
-  a-level : {ts : List Token} {t : Token} {p : ℕ} → FirstToken text ts t p → Opener t → Open (ts ++ (t ∷ [])) (suc levelLimit) → FirstRefused text 6 p

@@ -16,6 +16,7 @@ pub data Role : Type 0 where
   flag : Test → Role
   name : Name → Role
 
+-- a row of the vocabulary
 pub record Entry : Type 0 where
   pub word : List ℕ
   pub role : Role
@@ -41,6 +42,7 @@ vocabulary =
     ∷ entry (45 ∷ 116 ∷ 105 ∷ 109 ∷ 101 ∷ 115 ∷ 116 ∷ 97 ∷ 109 ∷ 112 ∷ []) (name timeName)  -- -timestamp
     ∷ []
 
+-- the word stands in the vocabulary, with this role
 pub record Says (w : List ℕ) (r : Role) : Type 0 where
   pub row : ℕ
   pub within : row < length vocabulary

@@ -9,7 +9,7 @@ ghost use Rattle.filter.specs.Words.{wordOf, saidBy, roleOf, name as a-n
 ghost use Rattle.filter.specs.Grammar.{expression as an-expression, conjunction as a-conjunction, factor as a-factor};
 ghost use Rattle.filter.specs.Answering.{numberOf, answer, valueOf, saidOf, bufferOf};
 ghost use Rattle.program.specs.Layout.{fields};
-ghost use Rattle.filter.specs.Parsing.{roleSaid, operandRows, roleIn, operandKind, opensLevel, Ready, Says, TestSays, Whole};
+ghost use Rattle.filter.specs.Parsing.{roleSaid, operandRows, roleIn, operandKind, opensLevel, Ready, PartSays, TestSays, Whole};
 ghost use Rattle.operand.specs.Codes.{found};
 use network::Relation;
 use operand::Meant;
@@ -225,7 +225,7 @@ fn test(text: &[u8], t: Lexeme, out: &mut [u8], n: usize) -> Parsed
 // `!` factor, `(` expression `)`, or a test.
 fn factor(text: &[u8], level: usize, t: Lexeme, out: &mut [u8], n: usize) -> Parsed
     requires { ⌜ (level ≤ 32) × Ready (now text) t n ⌝ }
-    ensures { λ r. ⌜ Says a-factor (now (text .entry)) level t n (now (out .entry)) r (now (out .exit)) ⌝ }
+    ensures { λ r. ⌜ PartSays a-factor (now (text .entry)) level t n (now (out .entry)) r (now (out .exit)) ⌝ }
 {
     let kind = t.kind;
     match kind {
@@ -273,7 +273,7 @@ fn factor(text: &[u8], level: usize, t: Lexeme, out: &mut [u8], n: usize) -> Par
 // Factors joined by `-and`. A pass is written when the count of the records that it passes over is known.
 fn conjunction(text: &[u8], level: usize, t: Lexeme, out: &mut [u8], n: usize) -> Parsed
     requires { ⌜ (level ≤ 32) × Ready (now text) t n ⌝ }
-    ensures { λ r. ⌜ Says a-conjunction (now (text .entry)) level t n (now (out .entry)) r (now (out .exit)) ⌝ }
+    ensures { λ r. ⌜ PartSays a-conjunction (now (text .entry)) level t n (now (out .entry)) r (now (out .exit)) ⌝ }
 {
     let r = factor(text, level, t, out, n);
     let Parsed::Upto { next: first, n: m0 } = r else {
@@ -299,7 +299,7 @@ fn conjunction(text: &[u8], level: usize, t: Lexeme, out: &mut [u8], n: usize) -
 // Conjunctions joined by `-or`.
 fn expression(text: &[u8], level: usize, t: Lexeme, out: &mut [u8], n: usize) -> Parsed
     requires { ⌜ (level ≤ 32) × Ready (now text) t n ⌝ }
-    ensures { λ r. ⌜ Says an-expression (now (text .entry)) level t n (now (out .entry)) r (now (out .exit)) ⌝ }
+    ensures { λ r. ⌜ PartSays an-expression (now (text .entry)) level t n (now (out .entry)) r (now (out .exit)) ⌝ }
 {
     let r = conjunction(text, level, t, out, n);
     let Parsed::Upto { next: first, n: m0 } = r else {

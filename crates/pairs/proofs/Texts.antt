@@ -25,7 +25,7 @@ use Rattle.operand.specs.Patterns.{itemRead, itemsRead, patternOperand}
 use Rattle.operand.specs.Tests.{meaning}
 use Rattle.filter.specs.Words.{vocabulary, roleOf}
 use Rattle.filter.specs.Reader.{read}
-use Rattle.filter.specs.Answers.{bare, Derives, Outcome, compiled, Answers, compiles}
+use Rattle.filter.specs.Answers.{bare, DerivedWithin, Outcome, compiled, Answers, compiles}
 use Rattle.filter.specs.Answering.{numberOf, startOf, placeOf, answer}
 use Rattle.filter.proofs.Answered.{answer-given}
 use Rattle.filter.proofs.CompiledValid.{reads-possible}
@@ -62,7 +62,7 @@ Computed kept text r count = (answerFor text r ≡ compiled r) × (verdict truth
 
 -- `OnR` with the reading in sight, and with any room that holds the program
 pub record TextOnR (Verdict : Message → Reading → Type 0) (text : List ℕ) (r : Reading) (count : ℕ) : Type 0 where
-  pub derives : Derives text r
+  pub derives : DerivedWithin text r
   pub compiles : (room : ℕ) → recordSize * weight r ≤ room → Answers text room (compiled r)
   pub verdict : Verdict messageR r
   pub counted : steps (isTrue messageR) r ≡ count
@@ -79,7 +79,7 @@ module _ {text : List ℕ} {r : Reading} {count : ℕ} where
     where
       by-answer : {room : ℕ} → Answers text room (compiled r) → TextOnR Verdict text r count
       by-answer (compiles f d w l) =
-          record { derives = d; compiles = λ room h. compiles f d w h; verdict = v (reading-addressed r (reads-possible (d .reads))); counted = s }
+          record { derives = d; compiles = λ room h. compiles f d w h; verdict = v (reading-addressed r (reads-possible (d .derived .reads))); counted = s }
 
   pub keeps : Computed true text r count → TextOnR Keeps text r count
   unfolding truthOnR

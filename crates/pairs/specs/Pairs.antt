@@ -10,7 +10,7 @@ use Rattle.program.specs.Layout.{recordSize}
 use Rattle.truth.specs.Means.{isTrue}
 use Rattle.truth.specs.Verdict.{Keeps, Drops}
 use Rattle.filter.specs.Answers as words
-use Rattle.filter.specs.Answers.{Derives, Answers, compiled}
+use Rattle.filter.specs.Answers.{DerivedWithin, Answers, compiled}
 use Rattle.pairs.specs.RecordR.{recordR, messageR}
 
 pub data Pair : Type 0 where
@@ -24,7 +24,7 @@ pub data Pair : Type 0 where
 -- a text compiles, in a buffer that just holds its program, and its reading has this verdict on R in so many steps
 pub record OnR (Verdict : Message → Reading → Type 0) (text : List ℕ) (count : ℕ) : Type 0 where
   pub reading : Reading
-  pub derives : Derives text reading
+  pub derives : DerivedWithin text reading
   pub compiles : Answers text (recordSize * weight reading) (compiled reading)
   pub verdict : Verdict messageR reading
   pub counted : steps (isTrue messageR) reading ≡ count

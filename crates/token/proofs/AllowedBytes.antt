@@ -13,7 +13,7 @@ use lib.Seq.{take-all, getD-take}
 use borrow.Author.Tests.{eqb-true, leb-true, le-leb}
 use Rattle.octets.specs.Choice.{pick}
 use Rattle.octets.proofs.Choices.{never, either, second, each}
-use Rattle.token.specs.Texts.{Allowed, printed, tab, lineFeed, Every, none, more, allowed}
+use Rattle.token.specs.Texts.{Allowed, printed, tab, lineFeed, Every, none, more, Forbidden, allowed}
 use Rattle.token.specs.Next.{allowedFront}
 use Rattle.token.proofs.Runs.{run-within, run-behind, run-every, run-whole, run-long}
 
@@ -44,12 +44,6 @@ every-place (more p ps) (suc i) h = every-place ps i (omega arith)
 pub every-places : {P : ℕ → Type 0} (l : List ℕ) → ((i : ℕ) → i < length l → P (getD l i 0)) → Every P l
 every-places [] f = none
 every-places (b ∷ bs) f = more (f 0 (omega arith)) (every-places bs (λ i h. f (suc i) (omega arith)))
-
--- the first forbidden byte stands at p
-pub record Forbidden (text : List ℕ) (p : ℕ) : Type 0 where
-  pub within : p < length text
-  pub earlier : (i : ℕ) → i < p → Allowed (getD text i 0)
-  pub here : Allowed (getD text p 0) → ⊥
 
 -- all bytes are allowed, or one is the first that isn't
 pub forbidden-or : (text : List ℕ) → Every Allowed text ⊎ ((p : ℕ) × Forbidden text p)

@@ -1,8 +1,9 @@
 -- Texts: their size and bytes.
-use Prim.Native.Nat.{ℕ, _≤_}
+use Prim.Native.Nat.{ℕ, _≤_, _<_}
 use mathlib.Core.Bool.{Bool, true, false}
 use mathlib.Core.List.{List, [], _∷_}
 use lib.Dec.{leb, eqb}
+use lib.ListN.{length, getD}
 use Rattle.octets.specs.Choice.{pick}
 
 -- the most bytes of a text
@@ -25,6 +26,12 @@ pub data Allowed : ℕ → Type 0 where
 pub data Every (P : ℕ → Type 0) : List ℕ → Type 0 where
   none : Every P []
   more : {b : ℕ} {bs : List ℕ} → P b → Every P bs → Every P (b ∷ bs)
+
+-- a forbidden byte, and the first: its place
+pub record Forbidden (text : List ℕ) (place : ℕ) : Type 0 where
+  pub within : place < length text
+  pub earlier : (i : ℕ) → i < place → Allowed (getD text i 0)
+  pub here : Allowed (getD text place 0) → ⊥
 
 -- ---- what the code computes
 
