@@ -14,7 +14,7 @@ use Rattle.program.specs.Records.{Record, flip, Possible, weightLimit}
 use Rattle.program.specs.Layout.{recordSize, encodeAll}
 use Rattle.program.specs.Machine.{recordsIn}
 use Rattle.program.specs.Validity.{Valid, allRightIn, testKind, groupedIn, landingIn, isValid}
-use Rattle.program.proofs.LayoutLaws.{encodeAll-length, records-encoded}
+use Rattle.program.proofs.LayoutLaws.{encodeAll-length}
 use Rattle.program.proofs.RightLaws.{encode-right}
 use Rattle.octets.proofs.Every.{every-place}
 use Rattle.program.proofs.ValidKinds.{test-by-kind, kind-of-test}
@@ -92,10 +92,6 @@ module _ {program : List ℕ} (v : Valid program) where
   -- the bytes of a valid program are 16 for each record
   pub valid-length : length program ≡ recordSize * length (v .records)
   valid-length = ap length (v .laid) ∙ encodeAll-length (v .records)
-
-  -- its records are those read
-  pub valid-records : recordsIn program ≡ v .records
-  valid-records = ap recordsIn (v .laid) ∙ records-encoded (v .records) every-possible
 
   -- it passes the tests
   tests-pass : Tests program

@@ -1,14 +1,10 @@
 -- The bytes of a record: kind, variant, count (2 bytes), A, B (4 bytes each), 4 zero bytes. Big-endian, unused fields zero.
-use Prim.Native.Nat.{ℕ, zero, suc, _+_}
-use mathlib.Core.Path.{_≡_}
-use mathlib.Core.Bool.{Bool, true, false}
+use Prim.Native.Nat.{ℕ, _+_}
+use mathlib.Core.Bool.{Bool, true}
 use mathlib.Core.List.{List, [], _∷_, _++_}
-use mathlib.Core.Option.{Option, some, none}
-use lib.ListN.{length, getD}
-use lib.Dec.{eqb, leb, ltb}
+use lib.Dec.{eqb, leb}
 use Rattle.octets.specs.Choice.{pick}
 use Rattle.octets.specs.Numbers.{numberAt, bytesOf}
-use Rattle.network.specs.declared.Network.{Network}
 use Rattle.network.specs.declared.Relation.{Relation}
 use Rattle.network.specs.declared.Relation.the-variants.{Exact, Supernet, Subnet, Related}
 use Rattle.aspath.specs.declared.Item.{Item}

@@ -1,13 +1,13 @@
 -- The records of a program: what each says.
 use Prim.Native.Nat.{ℕ, _+_, _≤_, _<_, _^_}
 use mathlib.Core.Path.{_≡_}
-use mathlib.Core.Bool.{Bool, true, false}
+use mathlib.Core.Bool.{Bool, false}
 use Rattle.network.specs.declared.Network.{Network}
 use Rattle.network.specs.declared.Relation.{Relation}
 use Rattle.network.specs.Networks.{masked}
 use Rattle.aspath.specs.declared.Item.{Item}
 use Rattle.aspath.specs.declared.Item.the-variants.{Number, Other, Any}
-use Rattle.program.specs.Readings.{Peer, byAs, byAddress, byBoth, Side, Comparison, Operator, and, or}
+use Rattle.program.specs.Readings.{Peer, byAs, byAddress, byBoth, Side, Comparison, Operator}
 
 pub data Record : Type 0 where
   type : ℕ → Record

@@ -15,7 +15,7 @@ use Rattle.program.specs.declared.Fields.{Fields}
 use Rattle.program.specs.declared.Left.{Left}
 use Rattle.program.specs.declared.Left.the-variants.{Items, Wrong}
 use Rattle.program.specs.Layout.{recordSize, fieldsIn, encodeAll}
-use Rattle.program.specs.Machine.{Class, aTest, anItem, classOf, countOf}
+use Rattle.program.specs.Machine.{aTest, anItem, classOf, countOf}
 
 -- each record but an item is followed by its count of items, and no item stands elsewhere
 pub data Grouped : List Record → Type 0 where

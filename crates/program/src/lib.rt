@@ -16,7 +16,7 @@ pub struct Fields {
 }
 
 // The items that still follow a path record, or that one stands wrong.
-pub enum Left {
+enum Left {
     Items(u32),
     Wrong,
 }
