@@ -20,7 +20,8 @@ use Rattle.octets.proofs.Every.{every-place}
 use Rattle.program.proofs.ValidKinds.{test-by-kind, kind-of-test}
 use Rattle.program.proofs.ValidRecords.{Right, right-sound, encodeAll-at, kind-at}
 use Rattle.octets.proofs.Every.{every-places}
-use Rattle.program.proofs.ValidWalks.{walk-complete, right-walks}
+use Rattle.program.proofs.ValidWalks.{walk-complete}
+use Rattle.program.proofs.Walks.{right-checks}
 use Rattle.program.proofs.ValidGroups.{grouped-sound, grouped-complete}
 use Rattle.program.proofs.ValidLandings.{landing-sound, landing-complete}
 
@@ -103,7 +104,7 @@ module _ {program : List ℕ} (v : Valid program) where
         few = omega (arith, valid-length, v .few);
         whole = omega (arith, valid-length);
         right = ap (allRightIn (length program)) (v .laid)
-            ∙ walk-complete right-walks (length program) rs (λ i h. rw (encodeAll-at rs i h) (encode-right (getD rs i flip) (v .possible i h) (encodeAll (drop (suc i) rs))));
+            ∙ walk-complete right-checks (length program) rs (λ i h. rw (encodeAll-at rs i h) (encode-right (getD rs i flip) (v .possible i h) (encodeAll (drop (suc i) rs))));
         starts = ap (λ (l : List ℕ). testKind (getD l 0 0)) (v .laid) ∙ ap testKind (kind-at rs every-possible 0 (v .some)) ∙ kind-of-test (getD rs 0 flip) (v .starts);
         grouped = ap (groupedIn (length program) 0) (v .laid) ∙ grouped-complete (length program) rs long every-possible (v .grouped);
         lands = ap (landingIn (length program)) (v .laid) ∙ landing-complete (length program) rs every-possible (v .lands);

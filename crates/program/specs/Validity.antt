@@ -121,7 +121,8 @@ leftAfter left l =
     (pick (eqb left 0) Wrong (Items (left - 1)))
     (pick (eqb left 0) (Items (pick (eqb (fieldsIn l .kind) 3) (fieldsIn l .count) 0)) Wrong)
 
-abbrev onItems : Left → (ℕ → Bool) → Bool
+-- a walk goes on with the items left, and ends where one stands wrong
+abbrev pub onItems : Left → (ℕ → Bool) → Bool
 onItems (Items n) go = go n
 onItems Wrong go = false
 
