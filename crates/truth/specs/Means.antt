@@ -19,7 +19,7 @@ use Rattle.attributes.specs.Attribute.{Attribute, atomicAggregate, codeOf, firs
 use Rattle.message.specs.Message.{Message, update}
 use Rattle.message.specs.Represents.{addressBits}
 use Rattle.program.specs.Validity.{all}
-use Rattle.program.specs.Readings.{Peer, byAs, byAddress, byBoth, Side, eitherSide, announced, withdrawn, Comparison, equal, below, atMost, above, atLeast, Test, typeIs, hasAttribute, pathMatches, peerIs, hasLoop, hasBogon, networkIs, timeIs}
+use Rattle.program.specs.Readings.{byAs, byAddress, byBoth, Side, eitherSide, announced, withdrawn, Comparison, equal, below, atMost, above, atLeast, Test, typeIs, hasAttribute, pathMatches, peerIs, hasLoop, hasBogon, networkIs, timeIs}
 
 -- the path of an UPDATE that has an AS_PATH
 pub record HasPath (m : Message) (path : List Member) : Type 0 where
