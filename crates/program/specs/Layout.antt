@@ -5,6 +5,7 @@ use mathlib.Core.List.{List, [], _∷_, _++_}
 use lib.Dec.{eqb, leb}
 use Rattle.octets.specs.Choice.{pick}
 use Rattle.octets.specs.Numbers.{numberAt, bytesOf}
+use Rattle.network.specs.declared.Network.{Network}
 use Rattle.network.specs.declared.Relation.{Relation}
 use Rattle.network.specs.declared.Relation.the-variants.{Exact, Supernet, Subnet, Related}
 use Rattle.aspath.specs.declared.Item.{Item}
@@ -99,17 +100,25 @@ itemIs v a = pick (eqb v 0) (Number a) (pick (eqb v 1) (Other a) Any)
 abbrev pub peerIs : ℕ → ℕ → ℕ → Peer
 peerIs v a b = pick (eqb v 1) (byAs b) (pick (eqb v 2) (byAddress a) (byBoth a b))
 
+-- variants 1 and 3 have `^`
+abbrev pub isStart : ℕ → Bool
+isStart v = pick (eqb v 1) true (eqb v 3)
+
+-- the network of a network record
+abbrev pub operandOf : Fields → Network
+operandOf f = record { address = f .a; len = f .count }
+
 -- the record that fields say, whatever stands in those that it leaves unused
 unfoldable pub recordIs : Fields → Record
 recordIs f =
     pick (eqb (f .kind) 1) (type (f .a))
     (pick (eqb (f .kind) 2) (attribute (f .a))
-    (pick (eqb (f .kind) 3) (path (pick (eqb (f .variant) 1) true (eqb (f .variant) 3)) (leb 2 (f .variant)) (f .count))
+    (pick (eqb (f .kind) 3) (path (isStart (f .variant)) (leb 2 (f .variant)) (f .count))
     (pick (eqb (f .kind) 4) (item (itemIs (f .variant) (f .a)))
     (pick (eqb (f .kind) 5) (peer (peerIs (f .variant) (f .a) (f .b)))
     (pick (eqb (f .kind) 6) loops
     (pick (eqb (f .kind) 7) bogon
-    (pick (eqb (f .kind) 8) (network (relationIs (f .variant)) (record { address = f .a; len = f .count }) (sideIs (f .b)))
+    (pick (eqb (f .kind) 8) (network (relationIs (f .variant)) (operandOf f) (sideIs (f .b)))
     (pick (eqb (f .kind) 9) (time (comparisonIs (f .variant)) (f .a) (f .b))
     (pick (eqb (f .kind) 11) (pass and (f .count))
     (pick (eqb (f .kind) 12) (pass or (f .count)) flip))))))))))

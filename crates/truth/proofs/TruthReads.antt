@@ -21,11 +21,11 @@ use Rattle.message.specs.Decode.{partOf, messageAt}
 use Rattle.program.specs.declared.Fields.{Fields}
 use Rattle.program.specs.Readings as readings
 use Rattle.program.specs.Records.{Record}
-use Rattle.program.specs.Layout.{recordSize, relationIs, sideIs, comparisonIs, peerIs, fieldsIn, recordIs}
+use Rattle.program.specs.Layout.{recordSize, relationIs, sideIs, comparisonIs, peerIs, operandOf, fieldsIn, recordIs}
 use Rattle.program.specs.Machine.{recordsIn, countOf, itemsAfter}
 use Rattle.truth.specs.Means.{second, onPath, onSegments, somePrefix, prefixesOn, compares, isTrue}
 use Rattle.truth.specs.Records.{recordTruth, truthAt}
-use Rattle.truth.specs.Matching.{samePeer, operandOf, itemsIn, pathTest}
+use Rattle.truth.specs.Matching.{samePeer, itemsIn, pathTest}
 use Rattle.truth.proofs.CodeReads.{some-coded}
 use Rattle.truth.proofs.KindReads.{by-kind}
 
