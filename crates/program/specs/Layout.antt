@@ -1,6 +1,6 @@
 -- The bytes of a record: kind, variant, count (2 bytes), A, B (4 bytes each), 4 zero bytes. Big-endian, unused fields zero.
 use Prim.Native.Nat.{ℕ, _+_}
-use mathlib.Core.Bool.{Bool, true}
+use mathlib.Core.Bool.{Bool, true, false}
 use mathlib.Core.List.{List, [], _∷_, _++_}
 use lib.Dec.{eqb, leb}
 use Rattle.octets.specs.Choice.{pick}
@@ -84,6 +84,10 @@ encodeAll (r ∷ more) = encode r ++ encodeAll more
 -- the fields in the record at the front
 unfoldable pub fieldsIn : List ℕ → Fields
 fieldsIn l = fields (numberAt l 0 1) (numberAt l 1 1) (numberAt l 2 2) (numberAt l 4 4) (numberAt l 8 4)
+
+-- 1 to 9 are the kinds of tests, but for an item's 4
+abbrev pub isTestKind : ℕ → Bool
+isTestKind k = pick (eqb k 0) false (pick (eqb k 4) false (leb k 9))
 
 abbrev pub relationIs : ℕ → Relation
 relationIs v = pick (eqb v 0) Exact (pick (eqb v 1) Supernet (pick (eqb v 2) Subnet Related))
