@@ -14,18 +14,11 @@ use Rattle.aspath.specs.Loops.{hasLoop}
 use Rattle.aspath.specs.Bogons.{someBogon}
 use Rattle.aspath.specs.Patterns.{Pattern, fits, matches}
 use Rattle.program.specs.declared.Fields.{Fields}
-use Rattle.program.specs.Readings.{Peer, byAs, byAddress, byBoth}
 use Rattle.program.specs.Layout.{itemIs, isStart}
 use Rattle.program.specs.Machine.{recordsIn, itemsAfter}
 use Rattle.program.specs.Validity.{all}
 
 -- ---- what the code computes
-
--- a peer against an address and an AS number
-abbrev pub samePeer : Peer → ℕ → ℕ → Bool
-samePeer (byAs n) address number = eqb number n
-samePeer (byAddress a) address number = eqb address a
-samePeer (byBoth a n) address number = all (eqb address a) (eqb number n)
 
 -- the item of an item record
 abbrev pub itemOf : Fields → Item
