@@ -127,6 +127,6 @@ recordIs f =
     (pick (eqb (f .kind) 11) (pass and (f .count))
     (pick (eqb (f .kind) 12) (pass or (f .count)) flip))))))))))
 
--- the record at the front of bytes, and the records of a program
+-- the record at the front of bytes
 abbrev pub decode : List ℕ → Record
 decode l = recordIs (fieldsIn l)
