@@ -1,4 +1,9 @@
 // Filters MRT records: `grainlantern FILTERFILE < RECORDS` writes the lines of the records that the filter keeps.
+ghost use mathlib.Core.Path.{_≡_};
+ghost use Prim.Native.Nat.{_≤_};
+ghost use lib.ListN.{length, take};
+ghost use Rattle.octets.specs.Writes.{Written};
+ghost use Rattle.grainlantern.specs.Refusal.{refusalText};
 use filter::Compiled;
 use judge::Judged;
 use judge::Tally;
@@ -39,13 +44,36 @@ fn read_filter(text: &mut [u8]) -> usize {
     read
 }
 
-// Says why a filter isn't compiled, and where.
-fn refuse(number: u32, place: usize) {
-    io::write_all(STDOUT_FILENO, b"refused ");
-    io::print_decimal(STDOUT_FILENO, number as u64);
-    io::write_all(STDOUT_FILENO, b" at ");
-    io::print_decimal(STDOUT_FILENO, place as u64);
-    io::write_all(STDOUT_FILENO, b"\n");
+// Writes bytes where the buffer reaches that far, and answers the next place.
+fn put_bytes(out: &mut [u8], at: usize, bytes: &[u8]) -> usize
+    ensures { λ r. ⌜ Written (now (out .entry)) at (now (bytes .entry)) (now (out .exit)) r ⌝ }
+{
+    let mut place = at;
+    let mut i = 0;
+    while i < bytes.len() {
+        place = octets::put(out, place, bytes[i]);
+        i += 1;
+    }
+    place
+}
+
+// Writes why a filter isn't compiled, and where, over the start of a buffer, and answers the bytes.
+fn put_refusal(out: &mut [u8], number: u32, place: u32) -> usize
+    requires { ⌜ 33 ≤ length (now out) ⌝ }
+    ensures { λ r. ⌜ take r (now (out .exit)) ≡ refusalText number place ⌝ }
+{
+    let at = put_bytes(out, 0, b"refused ");
+    let at = octets::put_decimal(out, at, number);
+    let at = put_bytes(out, at, b" at ");
+    let at = octets::put_decimal(out, at, place);
+    octets::put(out, at, b'\n')
+}
+
+// Says it by one write, so that no part of it follows a torn one.
+fn refuse(number: u32, place: u32) {
+    let mut out = [0u8; 33];
+    let length = put_refusal(&mut out, number, place);
+    io::write_all(STDOUT_FILENO, octets::part(&out, 0, length));
 }
 
 // Writes the lines of a record that is kept, and answers whether the next one may follow.
@@ -102,7 +130,7 @@ fn main() {
     let length = read_filter(&mut text);
     let compiled = filter::compile(octets::part(&text, 0, length), &mut program);
     match compiled {
-        Compiled::Refused(refusal, place) => refuse(filter::number_of(refusal), place),
+        Compiled::Refused(refusal, place) => refuse(filter::number_of(refusal), place as u32),
         Compiled::Program(size) => filter_records(octets::part(&program, 0, size)),
     }
 }

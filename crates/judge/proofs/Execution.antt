@@ -9,22 +9,22 @@ use mathlib.Core.Bool.{Bool, true, false, not}
 use mathlib.Core.List.{List}
 use lib.ListN.{length, drop, length-drop}
 use lib.Seq.{drop-drop}
-use lib.Dec.{eqb}
-use borrow.Author.Tests.{leb-true, ne-eqb}
+use borrow.Author.Tests.{ne-eqb}
 use Rattle.octets.specs.Choice.{pick}
-use Rattle.octets.proofs.Choices.{never, second-chosen}
+use Rattle.octets.proofs.Choices.{never}
 use Rattle.octets.proofs.Ranges.{within}
 use Rattle.aspath.specs.declared.Item.{Item}
 use Rattle.message.specs.Message.{Message}
 use Rattle.program.specs.declared.Fields.{Fields}
 use Rattle.program.specs.Readings.{Operator, and, or, open′}
 use Rattle.program.specs.Records.{Record}
-use Rattle.program.specs.Layout.{recordSize, fields, fieldsIn, recordIs, decode, operatorKind}
+use Rattle.program.specs.Layout.{recordSize, fields, fieldsIn, isTestKind, recordIs, decode, operatorKind}
 use Rattle.program.specs.Machine.{Class, aTest, anItem, aFlip, aPass, classOf, moved, exec, recordsIn}
+use Rattle.program.proofs.ValidKinds.{test-range}
 use Rattle.program.proofs.ValidRecords.{records-none, records-next}
 use Rattle.truth.specs.Records.{recordTruth, truthAt}
 use Rattle.judge.specs.declared.State.{State}
-use Rattle.judge.specs.Executing.{isTestKind, movedAt, stateAfter}
+use Rattle.judge.specs.Executing.{movedAt, stateAfter}
 
 -- ---- the class of the record that fields say
 
@@ -73,13 +73,9 @@ module _ (v c a b : ℕ) where
         ne-eqb k 12 n12,
       )
 
--- a test's kind is at most 9
-test-low : (k : ℕ) → isTestKind k ≡ true → k ≤ 9
-test-low k e = leb-true k 9 (second-chosen (eqb k 4) never (second-chosen (eqb k 0) never e .1) .1)
-
 -- 1 to 9 are tests, but for 4
 test-class : (f : Fields) → isTestKind (f .kind) ≡ true → classOf (recordIs f) ≡ aTest
-test-class f e = test-by (f .variant) (f .count) (f .a) (f .b) (f .kind) (test-low (f .kind) e) e
+test-class f e = test-by (f .variant) (f .count) (f .a) (f .b) (f .kind) (test-range {k = f .kind} e .low) e
 
 -- any other flips the flag
 flip-class : (f : Fields) → (f .kind ≡ 4 → ⊥) → (f .kind ≡ 11 → ⊥) → (f .kind ≡ 12 → ⊥) → isTestKind (f .kind) ≡ false → classOf (recordIs f) ≡ aFlip

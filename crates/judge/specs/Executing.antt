@@ -1,11 +1,9 @@
 -- What the parts of judging compute: the machine a record at a time, and an answer with what it counts as.
 use Prim.Native.Nat.{ℕ, _+_, _*_}
 use mathlib.Core.Path.{_≡_}
-use mathlib.Core.Bool.{Bool, false}
+use mathlib.Core.Bool.{Bool}
 use mathlib.Core.List.{List}
 use lib.ListN.{drop}
-use lib.Dec.{eqb, leb}
-use Rattle.octets.specs.Choice.{pick}
 use Rattle.message.specs.Message.{Message}
 use Rattle.program.specs.Layout.{recordSize, decode}
 use Rattle.program.specs.Machine.{classOf, moved}
@@ -32,10 +30,6 @@ tallyOf (Refused Lines) t = t
 pub record Answer (j : Judged) (o : Outcome) : Type 0 where
   pub said : valueOf j ≡ saidOf o
   pub counts : (t : Tally) → tallyOf j t ≡ tallyAfter o t
-
--- 1 to 9 are tests, but for 4
-abbrev pub isTestKind : ℕ → Bool
-isTestKind k = pick (eqb k 0) false (pick (eqb k 4) false (leb k 9))
 
 -- what the record at a place does: the records to pass over, the flag and the steps after it
 abbrev pub movedAt : Message → List ℕ → State → ℕ × Bool × ℕ

@@ -13,7 +13,7 @@ ghost use Rattle.truth.specs.Records.{recordTruth};
 ghost use Rattle.judge.specs.Tallies.{isFull};
 ghost use Rattle.judge.specs.Answers.{linesAfter, tallyAfter};
 ghost use Rattle.judge.specs.Judging.{decoded, judgeOf, numberOf, valueOf, saidOf};
-ghost use Rattle.judge.specs.Executing.{tallyOf, Answer, isTestKind, stateAfter};
+ghost use Rattle.judge.specs.Executing.{tallyOf, Answer, stateAfter};
 use line::Wrote;
 use message::Decoded;
 use message::Parts;
@@ -78,19 +78,6 @@ fn landing(next: usize, count: u32, onward: bool) -> usize
     next + 16 * (count as usize)
 }
 
-// Whether a kind is that of a test.
-fn is_test(kind: u32) -> bool
-    ensures { λ r. ⌜ r ≡ isTestKind kind ⌝ }
-{
-    if kind == 0 {
-        return false;
-    }
-    if kind == 4 {
-        return false;
-    }
-    kind <= 9
-}
-
 // The state after the record at its place. An item is no step; what is no test, item or pass flips the flag.
 fn step(program: &[u8], bytes: &[u8], parts: Parts, state: State) -> State
     requires { ⌜ (state .at + 16 ≤ 8192) × (16 * state .steps ≤ state .at) ⌝ }
@@ -117,7 +104,7 @@ fn step(program: &[u8], bytes: &[u8], parts: Parts, state: State) -> State
         let at = landing(next, f.count, !flag);
         return State { at, flag, steps };
     }
-    if is_test(kind) {
+    if program::is_test(kind) {
         let flag = truth::holds(program, at, bytes, parts);
         return State {
             at: next,

@@ -17,7 +17,7 @@ use Rattle.network.proofs.Clearing.{cleared-le, cleared-again}
 use Rattle.aspath.specs.declared.Item.{Item}
 use Rattle.aspath.specs.Patterns.{Pattern}
 use Rattle.program.specs.Readings.{Peer, Side, Comparison, Test}
-use Rattle.program.specs.Records.{Code, Word, ItemPossible, PeerPossible, NetworkPossible, TimePossible}
+use Rattle.program.specs.Records.{Code, Bits32, ItemPossible, PeerPossible, NetworkPossible, TimePossible}
 use Rattle.program.proofs.ReadingValid.{PatternPossible, PossibleTest}
 use Rattle.operand.specs.Decimals.{Digits, end, more}
 use Rattle.operand.specs.Codes.{Named, typeNames, attributeNames, CodeOperand, by-name, by-code}
@@ -60,7 +60,7 @@ attributes-small = refl
 -- ---- addresses, networks, peers
 
 -- an address has 32 bits
-pub address-word : {l : List ℕ} {a : ℕ} → Address l a → Word a
+pub address-word : {l : List ℕ} {a : ℕ} → Address l a → Bits32 a
 address-word x = record { below = omega (arith, x .a-is .below, x .b-is .below, x .c-is .below, x .d-is .below, x .value) }
 
 -- a network has at most 32 bits, those past its length clear

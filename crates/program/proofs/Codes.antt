@@ -3,13 +3,12 @@ use Prim.Native.Nat.{ℕ, _≤_}
 use native.Mathlib.Omega.{arith}
 use mathlib.Core.Path.{_≡_, refl, sym}
 use mathlib.Core.Bool.{Bool, true, false}
-use lib.Dec.{eqb, leb}
-use Rattle.octets.specs.Choice.{pick}
+use lib.Dec.{leb}
 use Rattle.octets.proofs.Choices.{never}
 use Rattle.network.specs.declared.Relation.{Relation}
 use Rattle.network.specs.declared.Relation.the-variants.{Exact, Supernet, Subnet, Related}
 use Rattle.program.specs.Readings.{Side, eitherSide, announced, withdrawn, Comparison, equal, below, atMost, above, atLeast}
-use Rattle.program.specs.Layout.{endsCode, relationCode, sideCode, comparisonCode, relationIs, sideIs, comparisonIs}
+use Rattle.program.specs.Layout.{endsCode, relationCode, sideCode, comparisonCode, relationIs, sideIs, comparisonIs, isStart}
 use Rattle.octets.proofs.Ranges.{within}
 
 -- ---- each is the one that its code says
@@ -69,16 +68,12 @@ side-code b h = within 2 (λ n. sideCode (sideIs n) ≡ n) b h refl refl refl
 pub comparison-code : (v : ℕ) → v ≤ 4 → comparisonCode (comparisonIs v) ≡ v
 comparison-code v h = within 4 (λ n. comparisonCode (comparisonIs n) ≡ n) v h refl refl refl refl refl
 
--- whether `^` stands, by the variant
-abbrev pub starts : ℕ → Bool
-starts v = pick (eqb v 1) true (eqb v 3)
-
-pub ends-code : (v : ℕ) → v ≤ 3 → endsCode (starts v) (leb 2 v) ≡ v
-ends-code v h = within 3 (λ n. endsCode (starts n) (leb 2 n) ≡ n) v h refl refl refl refl
+pub ends-code : (v : ℕ) → v ≤ 3 → endsCode (isStart v) (leb 2 v) ≡ v
+ends-code v h = within 3 (λ n. endsCode (isStart n) (leb 2 n) ≡ n) v h refl refl refl refl
 
 -- a path with neither end pinned has variant 0
-pub no-ends : (v : ℕ) → v ≤ 3 → starts v ≡ false → leb 2 v ≡ false → v ≡ 0
-no-ends v h = within 3 (λ n. starts n ≡ false → leb 2 n ≡ false → n ≡ 0) v h (λ e f. refl) (λ e f. never (sym e)) (λ e f. never (sym f)) (λ e f. never (sym e))
+pub no-ends : (v : ℕ) → v ≤ 3 → isStart v ≡ false → leb 2 v ≡ false → v ≡ 0
+no-ends v h = within 3 (λ n. isStart n ≡ false → leb 2 n ≡ false → n ≡ 0) v h (λ e f. refl) (λ e f. never (sym e)) (λ e f. never (sym f)) (λ e f. never (sym e))
 
 -- a path of variant 0 has neither end pinned
 pub ends-none : (start end : Bool) → endsCode start end ≡ 0 → (start ≡ false) × (end ≡ false)

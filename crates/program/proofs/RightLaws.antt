@@ -18,7 +18,7 @@ use Rattle.network.specs.Networks.{cleared}
 use Rattle.aspath.specs.declared.Item.the-variants.{Number, Other, Any}
 use Rattle.program.specs.declared.Fields.{Fields}
 use Rattle.program.specs.Readings.{byAs, byAddress, byBoth, and, or}
-use Rattle.program.specs.Records.{Record, type, attribute, path, item, peer, loops, bogon, network, time, flip, pass, weightLimit, Possible, Word, Code, PassPossible}
+use Rattle.program.specs.Records.{Record, type, attribute, path, item, peer, loops, bogon, network, time, flip, pass, weightLimit, Possible, Bits32, Code, PassPossible}
 use Rattle.program.specs.Layout.{recordSize, fields, endsCode, fieldsOf, laid, encode, fieldsIn, recordIs, decode}
 use Rattle.program.specs.Validity.{all, unused, rightCode, rightPath, rightItem, rightPeer, rightNetwork, rightTime, rightBare, rightPass, rightFields, rightRecord}
 use Rattle.octets.proofs.Ranges.{within}
@@ -54,7 +54,7 @@ module _ (k v c a b : ℕ) where
       let w = each (unused a) (unused b) (z .1) in
       (rw (eqb-true v 0 (x .0), eqb-true a 0 (w .0), eqb-true b 0 (w .1)), record { some = leb-true 1 c (y .0); few = leb-true (2 + c) weightLimit (z .0) })
 
-module _ (v c a b : ℕ) (wa : Word a) (wb : Word b) where
+module _ (v c a b : ℕ) (wa : Bits32 a) (wb : Bits32 b) where
   right-path : rightPath (fields 3 v c a b) ≡ true → Right (fields 3 v c a b)
   unfolding fieldsOf recordIs
   right-path e =
@@ -148,7 +148,7 @@ kinds f e = go (decLe (f .kind) 12)
         ) at e)
 
 -- so for each kind
-right-kind : (k v c a b : ℕ) → Word a → Word b → k ≤ 12 → rightFields (fields k v c a b) ≡ true → Right (fields k v c a b)
+right-kind : (k v c a b : ℕ) → Bits32 a → Bits32 b → k ≤ 12 → rightFields (fields k v c a b) ≡ true → Right (fields k v c a b)
 unfolding rightFields fieldsOf recordIs
 right-kind k v c a b wa wb h =
     within 12 (λ n. rightFields (fields n v c a b) ≡ true → Right (fields n v c a b)) k h
@@ -167,13 +167,13 @@ right-kind k v c a b wa wb h =
     (right-pass 12 v c a b)
 
 -- right fields are those of the record that they say, and it is possible
-right-fields : (f : Fields) → Word (f .a) → Word (f .b) → rightFields f ≡ true → Right f
+right-fields : (f : Fields) → Bits32 (f .a) → Bits32 (f .b) → rightFields f ≡ true → Right f
 right-fields f wa wb e = right-kind (f .kind) (f .variant) (f .count) (f .a) (f .b) wa wb (kinds f e) e
 
 -- ---- the record at the front
 
 -- four bytes make a number of 32 bits
-word-in : {l : List ℕ} → Octets l → (at : ℕ) → Word (numberAt l at 4)
+word-in : {l : List ℕ} → Octets l → (at : ℕ) → Bits32 (numberAt l at 4)
 word-in {l} o at = record { below = number-lt l at 4 (o .below) }
 
 -- what the test of the record at the front says

@@ -11,16 +11,17 @@ use Rattle.octets.specs.Numbers.{Octets}
 use Rattle.octets.proofs.Choices.{each}
 use Rattle.octets.proofs.Encode.{Every}
 use Rattle.program.specs.Records.{Record, flip, Possible, weightLimit}
-use Rattle.program.specs.Layout.{recordSize, encodeAll}
+use Rattle.program.specs.Layout.{recordSize, encodeAll, isTestKind}
 use Rattle.program.specs.Machine.{recordsIn}
-use Rattle.program.specs.Validity.{Valid, allRightIn, testKind, groupedIn, landingIn, isValid}
-use Rattle.program.proofs.LayoutLaws.{encodeAll-length, records-encoded}
+use Rattle.program.specs.Validity.{Valid, allRightIn, groupedIn, landingIn, isValid}
+use Rattle.program.proofs.LayoutLaws.{encodeAll-length}
 use Rattle.program.proofs.RightLaws.{encode-right}
 use Rattle.octets.proofs.Every.{every-place}
 use Rattle.program.proofs.ValidKinds.{test-by-kind, kind-of-test}
 use Rattle.program.proofs.ValidRecords.{Right, right-sound, encodeAll-at, kind-at}
 use Rattle.octets.proofs.Every.{every-places}
-use Rattle.program.proofs.ValidWalks.{walk-complete, right-walks}
+use Rattle.program.proofs.ValidWalks.{walk-complete}
+use Rattle.program.proofs.Walks.{right-checks}
 use Rattle.program.proofs.ValidGroups.{grouped-sound, grouped-complete}
 use Rattle.program.proofs.ValidLandings.{landing-sound, landing-complete}
 
@@ -30,7 +31,7 @@ record Tests (program : List ℕ) : Type 0 where
   few : length program ≤ recordSize * weightLimit
   whole : length program % recordSize ≡ 0
   right : allRightIn (length program) program ≡ true
-  starts : testKind (getD program 0 0) ≡ true
+  starts : isTestKind (getD program 0 0) ≡ true
   grouped : groupedIn (length program) 0 program ≡ true
   lands : landingIn (length program) program ≡ true
 
@@ -42,7 +43,7 @@ tests-sound program t =
     let b = each (leb (length program) (recordSize * weightLimit)) _ (a .1) in
     let c = each (eqb (length program % recordSize) 0) _ (b .1) in
     let d = each (allRightIn (length program) program) _ (c .1) in
-    let e = each (testKind (getD program 0 0)) _ (d .1) in
+    let e = each (isTestKind (getD program 0 0)) _ (d .1) in
     let f = each (groupedIn (length program) 0 program) (landingIn (length program) program) (e .1) in
     record {
       some = leb-true _ _ (a .0);
@@ -71,7 +72,7 @@ records-valid program rs r t =
       some = some;
       few = omega (arith, t .few);
       possible = every-place (r .possible) flip;
-      starts = test-by-kind (getD rs 0 flip) (ap testKind (sym (kind-at rs (r .possible) 0 some) ∙ ap (λ (l : List ℕ). getD l 0 0) (sym (r .encoded))) ∙ t .starts);
+      starts = test-by-kind (getD rs 0 flip) (ap isTestKind (sym (kind-at rs (r .possible) 0 some) ∙ ap (λ (l : List ℕ). getD l 0 0) (sym (r .encoded))) ∙ t .starts);
       grouped = grouped-sound (length program) rs long (r .possible) (ap (groupedIn (length program) 0) (sym (r .encoded)) ∙ t .grouped);
       lands = landing-sound (length program) rs long (r .possible) (ap (landingIn (length program)) (sym (r .encoded)) ∙ t .lands);
     }
@@ -93,10 +94,6 @@ module _ {program : List ℕ} (v : Valid program) where
   pub valid-length : length program ≡ recordSize * length (v .records)
   valid-length = ap length (v .laid) ∙ encodeAll-length (v .records)
 
-  -- its records are those read
-  pub valid-records : recordsIn program ≡ v .records
-  valid-records = ap recordsIn (v .laid) ∙ records-encoded (v .records) every-possible
-
   -- it passes the tests
   tests-pass : Tests program
   tests-pass =
@@ -107,8 +104,8 @@ module _ {program : List ℕ} (v : Valid program) where
         few = omega (arith, valid-length, v .few);
         whole = omega (arith, valid-length);
         right = ap (allRightIn (length program)) (v .laid)
-            ∙ walk-complete right-walks (length program) rs (λ i h. rw (encodeAll-at rs i h) (encode-right (getD rs i flip) (v .possible i h) (encodeAll (drop (suc i) rs))));
-        starts = ap (λ (l : List ℕ). testKind (getD l 0 0)) (v .laid) ∙ ap testKind (kind-at rs every-possible 0 (v .some)) ∙ kind-of-test (getD rs 0 flip) (v .starts);
+            ∙ walk-complete right-checks (length program) rs (λ i h. rw (encodeAll-at rs i h) (encode-right (getD rs i flip) (v .possible i h) (encodeAll (drop (suc i) rs))));
+        starts = ap (λ (l : List ℕ). isTestKind (getD l 0 0)) (v .laid) ∙ ap isTestKind (kind-at rs every-possible 0 (v .some)) ∙ kind-of-test (getD rs 0 flip) (v .starts);
         grouped = ap (groupedIn (length program) 0) (v .laid) ∙ grouped-complete (length program) rs long every-possible (v .grouped);
         lands = ap (landingIn (length program)) (v .laid) ∙ landing-complete (length program) rs every-possible (v .lands);
       }

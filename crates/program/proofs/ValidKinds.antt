@@ -6,19 +6,18 @@ use mathlib.Core.Bool.{true}
 use mathlib.Core.List.{List, _++_}
 use mathlib.Core.Logic.{_⊎_, inl, inr}
 use lib.ListN.{getD}
-use lib.Dec.{eqb, leb}
-use borrow.Author.Tests.{leb-true, eqb-false, not-true, ne-eqb}
+use lib.Dec.{eqb}
+use borrow.Author.Tests.{leb-true, eqb-false, ne-eqb}
 use Rattle.octets.specs.Choice.{pick}
 use Rattle.octets.proofs.Numbers.{number-one}
-use Rattle.octets.proofs.Choices.{each}
+use Rattle.octets.proofs.Choices.{never, second-chosen}
 use Rattle.aspath.specs.declared.Item.{Item}
 use Rattle.aspath.specs.declared.Item.the-variants.{Number, Other, Any}
 use Rattle.program.specs.declared.Fields.{Fields}
 use Rattle.program.specs.Readings.{byAs, byAddress, byBoth, Operator, and, or}
 use Rattle.program.specs.Records.{Record, type, attribute, path, item, peer, loops, bogon, network, time, flip, pass, Possible}
-use Rattle.program.specs.Layout.{fieldsOf, encode, fieldsIn}
+use Rattle.program.specs.Layout.{fieldsOf, encode, fieldsIn, isTestKind}
 use Rattle.program.specs.Machine.{aTest, anItem, aFlip, aPass, classOf, countOf}
-use Rattle.program.specs.Validity.{testKind}
 use Rattle.program.proofs.LayoutLaws.{fields-read, possible-fit}
 
 -- a pass's kind and count in bytes
@@ -35,7 +34,7 @@ pass-fields or n = record { kind = omega arith; count = refl }
 -- what a record is, with its kind and its count in bytes
 pub data Sort (r : Record) : Type 0 where
   an-item : (i : Item) → r ≡ item i → classOf r ≡ anItem → fieldsOf r .kind ≡ 4 → Sort r
-  a-test : classOf r ≡ aTest → testKind (fieldsOf r .kind) ≡ true → pick (eqb (fieldsOf r .kind) 3) (fieldsOf r .count) 0 ≡ countOf r → Sort r
+  a-test : classOf r ≡ aTest → isTestKind (fieldsOf r .kind) ≡ true → pick (eqb (fieldsOf r .kind) 3) (fieldsOf r .count) 0 ≡ countOf r → Sort r
   a-flip : classOf r ≡ aFlip → fieldsOf r .kind ≡ 10 → countOf r ≡ 0 → Sort r
   a-pass : (o : Operator) (n : ℕ) → r ≡ pass o n → classOf r ≡ aPass o n → PassFields r n → countOf r ≡ 0 → Sort r
 
@@ -64,10 +63,10 @@ pub record TestKind (k : ℕ) : Type 0 where
   pub other : k ≡ 4 → ⊥
 
 -- what the test of it says
-pub test-range : {k : ℕ} → testKind k ≡ true → TestKind k
+pub test-range : {k : ℕ} → isTestKind k ≡ true → TestKind k
 test-range {k} e =
-    let b = each (leb k 9) _ e in
-    record { low = leb-true k 9 (b .0); other = eqb-false k 4 (not-true (eqb k 4) (b .1)) }
+    let b = second-chosen (eqb k 4) never (second-chosen (eqb k 0) never e .1) in
+    record { low = leb-true k 9 (b .1); other = eqb-false k 4 (b .0) }
 
 -- the fields are read back
 pub record-read : (r : Record) → Possible r → (rest : List ℕ) → fieldsIn (encode r ++ rest) ≡ fieldsOf r
@@ -137,7 +136,7 @@ pass-or-other r = go (sort r)
     go (a-pass o n e c x z) = inl (record { operator = o; count = n; is = e; fields = x })
 
 -- a record with a test's kind is a test
-pub test-by-kind : (r : Record) → testKind (fieldsOf r .kind) ≡ true → classOf r ≡ aTest
+pub test-by-kind : (r : Record) → isTestKind (fieldsOf r .kind) ≡ true → classOf r ≡ aTest
 test-by-kind r t = go (sort r)
   where
     go : Sort r → classOf r ≡ aTest
@@ -147,10 +146,10 @@ test-by-kind r t = go (sort r)
     go (a-pass o n e c x z) = absurd (omega (arith, test-range {k = fieldsOf r .kind} t))
 
 -- and a test has one
-pub kind-of-test : (r : Record) → classOf r ≡ aTest → testKind (fieldsOf r .kind) ≡ true
+pub kind-of-test : (r : Record) → classOf r ≡ aTest → isTestKind (fieldsOf r .kind) ≡ true
 kind-of-test r q = go (sort r)
   where
-    go : Sort r → testKind (fieldsOf r .kind) ≡ true
+    go : Sort r → isTestKind (fieldsOf r .kind) ≡ true
     go (an-item i e c k) = cc
     go (a-test c t n) = t
     go (a-flip c k n) = cc

@@ -24,7 +24,8 @@ use Rattle.octets.proofs.Every.{every-place}
 use Rattle.program.proofs.ValidKinds.{PassFields, pass-fields, IsPass, pass-or-other, item-kind, other-kind, record-read}
 use Rattle.program.proofs.ValidRecords.{encodeAll-at, kind-at}
 use Rattle.octets.proofs.Every.{every-drop}
-use Rattle.program.proofs.ValidWalks.{walk-sound, walk-complete, landing-walks}
+use Rattle.program.proofs.ValidWalks.{walk-sound, walk-complete}
+use Rattle.program.proofs.Walks.{landing-checks}
 
 -- ---- a record, with those after it
 
@@ -105,7 +106,7 @@ pub landing-sound : (f : ℕ) (rs : List Record) → length rs ≤ f → Every P
     → (i : ℕ) (o : Operator) (count : ℕ) → i < length rs → getD rs i flip ≡ pass o count → Landing rs (i + 1 + count)
 landing-sound f rs h ps t i o count k e =
     let w : landsWell (encode (getD rs i flip) ++ encodeAll (drop (suc i) rs)) ≡ true
-    = ap landsWell (sym (encodeAll-at rs i k)) ∙ walk-sound landing-walks f rs h t i k in
+    = ap landsWell (sym (encodeAll-at rs i k)) ∙ walk-sound landing-checks f rs h t i k in
     let x : PassFields (getD rs i flip) count = rw e (pass-fields o count) in
     landing-up rs i count k (pass-sound (getD rs i flip) (every-place ps flip i k) (drop (suc i) rs) count x (every-drop (suc i) ps) w)
 
@@ -113,7 +114,7 @@ landing-sound f rs h ps t i o count k e =
 pub landing-complete : (f : ℕ) (rs : List Record) → Every Possible rs
     → ((i : ℕ) (o : Operator) (count : ℕ) → i < length rs → getD rs i flip ≡ pass o count → Landing rs (i + 1 + count))
     → landingIn f (encodeAll rs) ≡ true
-landing-complete f rs ps g = walk-complete landing-walks f rs (λ i h. ap landsWell (encodeAll-at rs i h) ∙ here i h (pass-or-other (getD rs i flip)))
+landing-complete f rs ps g = walk-complete landing-checks f rs (λ i h. ap landsWell (encodeAll-at rs i h) ∙ here i h (pass-or-other (getD rs i flip)))
   where
     here : (i : ℕ) → i < length rs → IsPass (getD rs i flip) ⊎ (fieldsOf (getD rs i flip) .kind < 11)
         → landsWell (encode (getD rs i flip) ++ encodeAll (drop (suc i) rs)) ≡ true

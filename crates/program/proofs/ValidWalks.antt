@@ -2,28 +2,22 @@
 use Prim.Native.Nat.{ℕ, zero, suc, _≤_, _<_}
 use native.Mathlib.Nat.{not-suc-le-zero}
 use native.Mathlib.Omega.{arith}
-use mathlib.Core.Path.{_≡_, refl, sym, _∙_}
+use mathlib.Core.Path.{_≡_, sym, _∙_}
 use mathlib.Core.Bool.{Bool, true}
 use mathlib.Core.List.{List, [], _∷_, _++_}
 use lib.ListN.{length, drop}
-use lib.Dec.{ltb}
 use borrow.Author.Tests.{le-ltb}
-use Rattle.octets.specs.Choice.{pick}
 use Rattle.octets.proofs.Choices.{each}
 use Rattle.program.specs.Records.{Record}
-use Rattle.program.specs.Layout.{recordSize, encode, encodeAll}
-use Rattle.program.specs.Validity.{all, rightRecord, allRightIn, landsWell, landingIn}
+use Rattle.program.specs.Layout.{encode, encodeAll}
+use Rattle.program.specs.Validity.{all}
 use Rattle.program.proofs.ValidRecords.{after-record, record-long}
+use Rattle.program.proofs.Walks.{Checks}
 
--- walk tries the test at the front, and then goes on after the record there
-pub record Walks (test : List ℕ → Bool) (walk : ℕ → List ℕ → Bool) : Type 0 where
-  pub none : (l : List ℕ) → walk zero l ≡ true
-  pub next : (f : ℕ) (l : List ℕ) → walk (suc f) l ≡ pick (ltb (length l) recordSize) true (all (test l) (walk f (drop recordSize l)))
-
-module _ {test : List ℕ → Bool} {walk : ℕ → List ℕ → Bool} (w : Walks test walk) where
+module _ {test : List ℕ → Bool} {walk : ℕ → List ℕ → Bool} (w : Checks test walk) where
   -- over a record and more
   walk-next : (f : ℕ) (r : Record) (rest : List ℕ) → walk (suc f) (encode r ++ rest) ≡ all (test (encode r ++ rest)) (walk f rest)
-  walk-next f r rest = w .next f (encode r ++ rest) ∙ rw (le-ltb _ _ (record-long r rest), after-record r rest)
+  walk-next f r rest = w .step f (encode r ++ rest) ∙ rw (le-ltb _ _ (record-long r rest), after-record r rest)
 
   -- where the walk holds, the test holds at each record
   pub walk-sound : (f : ℕ) (rs : List Record) → length rs ≤ f → walk f (encodeAll rs) ≡ true → (i : ℕ) → i < length rs → test (encodeAll (drop i rs)) ≡ true
@@ -36,16 +30,7 @@ module _ {test : List ℕ → Bool} {walk : ℕ → List ℕ → Bool} (w : Walk
   -- and the other way round
   pub walk-complete : (f : ℕ) (rs : List Record) → ((i : ℕ) → i < length rs → test (encodeAll (drop i rs)) ≡ true) → walk f (encodeAll rs) ≡ true
   unfolding encodeAll
-  walk-complete zero rs t = w .none (encodeAll rs)
-  walk-complete (suc f) [] t = w .next f []
+  walk-complete zero rs t = w .bare (encodeAll rs)
+  walk-complete (suc f) [] t = w .step f []
   walk-complete (suc f) (r ∷ rs) t =
       walk-next f r (encodeAll rs) ∙ rw (t 0 (omega arith)) (walk-complete f rs (λ i h. t (suc i) (omega arith)))
-
--- the two walks
-pub right-walks : Walks rightRecord allRightIn
-unfolding allRightIn
-right-walks = record { none = λ l. refl; next = λ f l. refl }
-
-pub landing-walks : Walks landsWell landingIn
-unfolding landingIn
-landing-walks = record { none = λ l. refl; next = λ f l. refl }

@@ -1,5 +1,5 @@
 -- Laws of the walks over the records of a program: they end, go on, and their bound doesn't matter. Assumes nothing.
-use Prim.Native.Nat.{ℕ, zero, suc, _+_, _≤_, _<_}
+use Prim.Native.Nat.{ℕ, zero, suc, _≤_, _<_}
 use native.Mathlib.Nat.{lt-of-not-le}
 use native.Mathlib.Decide.{decLe}
 use native.Mathlib.Omega.{arith}
@@ -13,7 +13,7 @@ use Rattle.octets.specs.Choice.{pick}
 use Rattle.program.specs.declared.Left.{Left}
 use Rattle.program.specs.declared.Left.the-variants.{Items, Wrong}
 use Rattle.program.specs.Layout.{recordSize}
-use Rattle.program.specs.Validity.{all, rightRecord, allRightIn, leftAfter, groupedIn, landsWell, landingIn}
+use Rattle.program.specs.Validity.{all, rightRecord, allRightIn, leftAfter, onItems, groupedIn, landsWell, landingIn}
 
 -- a walk in a state: at the end it comes to done, else to what goes makes of the record at the front and of the walk after it
 pub record Walk {S : Type 0} (walk : ℕ → S → List ℕ → Bool) (done : S → Bool) (goes : S → List ℕ → (S → Bool) → Bool) : Type 0 where
@@ -83,27 +83,13 @@ landing-checks = record { bare = λ l. refl; step = λ f l. refl }
 
 -- ---- each item stands where one is due
 
-abbrev onItems : Left → (ℕ → Bool) → Bool
-onItems (Items n) go = go n
-onItems Wrong go = false
-
 items-alike : (x : Left) {go gone : ℕ → Bool} → ((t : ℕ) → go t ≡ gone t) → onItems x go ≡ onItems x gone
 items-alike (Items n) e = e n
 items-alike Wrong e = refl
 
-grouped-step : (f left : ℕ) (l : List ℕ)
-    → groupedIn (suc f) left l ≡ pick (ltb (length l) recordSize) (eqb left 0) (onItems (leftAfter left l) (λ n. groupedIn f n (drop recordSize l)))
-unfolding groupedIn
-grouped-step f left l = by (leftAfter left l) refl
-  where
-    by : (x : Left) → leftAfter left l ≡ x
-        → groupedIn (suc f) left l ≡ pick (ltb (length l) recordSize) (eqb left 0) (onItems (leftAfter left l) (λ n. groupedIn f n (drop recordSize l)))
-    by (Items n) e = rw e refl
-    by Wrong e = rw e refl
-
 grouped-walk : Walk groupedIn (λ left. eqb left 0) (λ left l go. onItems (leftAfter left l) go)
 unfolding groupedIn
-grouped-walk = record { bare = λ left l. refl; step = grouped-step; alike = λ left l e. items-alike (leftAfter left l) e }
+grouped-walk = record { bare = λ left l. refl; step = λ f left l. refl; alike = λ left l e. items-alike (leftAfter left l) e }
 
 -- where no whole record stands, none may be left
 pub grouped-end : (f left : ℕ) (l : List ℕ) → length l < recordSize → groupedIn f left l ≡ eqb left 0

@@ -1,11 +1,8 @@
 -- The bytes of a record: kind, variant, count (2 bytes), A, B (4 bytes each), 4 zero bytes. Big-endian, unused fields zero.
-use Prim.Native.Nat.{ℕ, zero, suc, _+_}
-use mathlib.Core.Path.{_≡_}
+use Prim.Native.Nat.{ℕ, _+_}
 use mathlib.Core.Bool.{Bool, true, false}
 use mathlib.Core.List.{List, [], _∷_, _++_}
-use mathlib.Core.Option.{Option, some, none}
-use lib.ListN.{length, getD}
-use lib.Dec.{eqb, leb, ltb}
+use lib.Dec.{eqb, leb}
 use Rattle.octets.specs.Choice.{pick}
 use Rattle.octets.specs.Numbers.{numberAt, bytesOf}
 use Rattle.network.specs.declared.Network.{Network}
@@ -88,6 +85,10 @@ encodeAll (r ∷ more) = encode r ++ encodeAll more
 unfoldable pub fieldsIn : List ℕ → Fields
 fieldsIn l = fields (numberAt l 0 1) (numberAt l 1 1) (numberAt l 2 2) (numberAt l 4 4) (numberAt l 8 4)
 
+-- 1 to 9 are the kinds of tests, but for an item's 4
+abbrev pub isTestKind : ℕ → Bool
+isTestKind k = pick (eqb k 0) false (pick (eqb k 4) false (leb k 9))
+
 abbrev pub relationIs : ℕ → Relation
 relationIs v = pick (eqb v 0) Exact (pick (eqb v 1) Supernet (pick (eqb v 2) Subnet Related))
 
@@ -103,21 +104,29 @@ itemIs v a = pick (eqb v 0) (Number a) (pick (eqb v 1) (Other a) Any)
 abbrev pub peerIs : ℕ → ℕ → ℕ → Peer
 peerIs v a b = pick (eqb v 1) (byAs b) (pick (eqb v 2) (byAddress a) (byBoth a b))
 
+-- variants 1 and 3 have `^`
+abbrev pub isStart : ℕ → Bool
+isStart v = pick (eqb v 1) true (eqb v 3)
+
+-- the network of a network record
+abbrev pub operandOf : Fields → Network
+operandOf f = record { address = f .a; len = f .count }
+
 -- the record that fields say, whatever stands in those that it leaves unused
 unfoldable pub recordIs : Fields → Record
 recordIs f =
     pick (eqb (f .kind) 1) (type (f .a))
     (pick (eqb (f .kind) 2) (attribute (f .a))
-    (pick (eqb (f .kind) 3) (path (pick (eqb (f .variant) 1) true (eqb (f .variant) 3)) (leb 2 (f .variant)) (f .count))
+    (pick (eqb (f .kind) 3) (path (isStart (f .variant)) (leb 2 (f .variant)) (f .count))
     (pick (eqb (f .kind) 4) (item (itemIs (f .variant) (f .a)))
     (pick (eqb (f .kind) 5) (peer (peerIs (f .variant) (f .a) (f .b)))
     (pick (eqb (f .kind) 6) loops
     (pick (eqb (f .kind) 7) bogon
-    (pick (eqb (f .kind) 8) (network (relationIs (f .variant)) (record { address = f .a; len = f .count }) (sideIs (f .b)))
+    (pick (eqb (f .kind) 8) (network (relationIs (f .variant)) (operandOf f) (sideIs (f .b)))
     (pick (eqb (f .kind) 9) (time (comparisonIs (f .variant)) (f .a) (f .b))
     (pick (eqb (f .kind) 11) (pass and (f .count))
     (pick (eqb (f .kind) 12) (pass or (f .count)) flip))))))))))
 
--- the record at the front of bytes, and the records of a program
+-- the record at the front of bytes
 abbrev pub decode : List ℕ → Record
 decode l = recordIs (fieldsIn l)

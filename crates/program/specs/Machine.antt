@@ -1,6 +1,6 @@
 -- The machine (the paper's term), written down over a program's bytes.
 use Prim.Native.Nat.{ℕ, zero, suc}
-use mathlib.Core.Bool.{Bool, true, false, not}
+use mathlib.Core.Bool.{Bool, false, not}
 use mathlib.Core.List.{List, [], _∷_}
 use lib.ListN.{length}
 use lib.Dec.{leb}
@@ -36,7 +36,7 @@ classOf (time c s m) = aTest
 classOf flip = aFlip
 classOf (pass o count) = aPass o count
 
--- the items that a record has, and these in the records after it
+-- the items that a record has
 unfoldable pub countOf : Record → ℕ
 countOf (type c) = 0
 countOf (attribute c) = 0
@@ -50,6 +50,7 @@ countOf (time c s m) = 0
 countOf flip = 0
 countOf (pass o count) = 0
 
+-- an item before those after it; a record that is none ends them
 abbrev itemIn : Record → List Item → List Item
 itemIn (item i) more = i ∷ more
 itemIn (type c) more = []
@@ -63,6 +64,7 @@ itemIn (time c s m) more = []
 itemIn flip more = []
 itemIn (pass o count) more = []
 
+-- up to so many items at the front of records; the first record that is none ends them
 unfoldable pub itemsAfter : ℕ → List Record → List Item
 itemsAfter zero rs = []
 itemsAfter (suc n) [] = []

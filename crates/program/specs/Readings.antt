@@ -1,7 +1,6 @@
 -- A reading (the paper's term): the tree that the grammar derives for a text, each test with what its operand stands for.
 use Prim.Native.Nat.{ℕ, _+_}
 use mathlib.Core.Bool.{Bool, true, false, not}
-use mathlib.Core.List.{List}
 use lib.ListN.{length}
 use Rattle.octets.specs.Choice.{pick}
 use Rattle.network.specs.declared.Network.{Network}

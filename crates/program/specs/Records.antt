@@ -1,13 +1,13 @@
 -- The records of a program: what each says.
 use Prim.Native.Nat.{ℕ, _+_, _≤_, _<_, _^_}
 use mathlib.Core.Path.{_≡_}
-use mathlib.Core.Bool.{Bool, true, false}
+use mathlib.Core.Bool.{Bool, false}
 use Rattle.network.specs.declared.Network.{Network}
 use Rattle.network.specs.declared.Relation.{Relation}
 use Rattle.network.specs.Networks.{masked}
 use Rattle.aspath.specs.declared.Item.{Item}
 use Rattle.aspath.specs.declared.Item.the-variants.{Number, Other, Any}
-use Rattle.program.specs.Readings.{Peer, byAs, byAddress, byBoth, Side, Comparison, Operator, and, or}
+use Rattle.program.specs.Readings.{Peer, byAs, byAddress, byBoth, Side, Comparison, Operator}
 
 pub data Record : Type 0 where
   type : ℕ → Record
@@ -25,12 +25,12 @@ pub data Record : Type 0 where
   -- a pass (the paper's term): over that many records, if the flag is false (`-and`) or true (`-or`)
   pass : Operator → ℕ → Record
 
--- the limits of a program
+-- the most records of a program, and so the largest weight
 abbrev pub weightLimit : ℕ
 weightLimit = 512
 
 -- a number of 32 bits
-pub record Word (n : ℕ) : Type 0 where
+pub record Bits32 (n : ℕ) : Type 0 where
   pub below : n < 2 ^ 32
 
 -- a code of one byte
@@ -38,19 +38,19 @@ pub record Code (n : ℕ) : Type 0 where
   pub below : n < 256
 
 abbrev pub ItemPossible : Item → Type 0
-ItemPossible (Number n) = Word n
-ItemPossible (Other n) = Word n
+ItemPossible (Number n) = Bits32 n
+ItemPossible (Other n) = Bits32 n
 ItemPossible Any = Unit {0}
 
 abbrev pub PeerPossible : Peer → Type 0
-PeerPossible (byAs n) = Word n
-PeerPossible (byAddress a) = Word a
-PeerPossible (byBoth a n) = Word a × Word n
+PeerPossible (byAs n) = Bits32 n
+PeerPossible (byAddress a) = Bits32 a
+PeerPossible (byBoth a n) = Bits32 a × Bits32 n
 
 -- a network of at most 32 bits, those past its length clear
 pub record NetworkPossible (n : Network) : Type 0 where
   pub sized : n .len ≤ 32
-  pub word : Word (n .address)
+  pub word : Bits32 (n .address)
   pub clear : n ≡ masked 32 (n .address) (n .len)
 
 -- a path of no items has `^` or `$`
@@ -60,7 +60,7 @@ pub record PathPossible (start end : Bool) (count : ℕ) : Type 0 where
 
 -- a time's microseconds are below a million
 pub record TimePossible (seconds micros : ℕ) : Type 0 where
-  pub word : Word seconds
+  pub word : Bits32 seconds
   pub fraction : micros < 1000000
 
 -- a pass goes over one record or more, and leaves room for itself and for what it decides on

@@ -14,8 +14,8 @@ use Rattle.program.specs.Records.{Record, item, flip, pass, Possible, we
 use Rattle.program.specs.declared.Fields.{Fields}
 use Rattle.program.specs.declared.Left.{Left}
 use Rattle.program.specs.declared.Left.the-variants.{Items, Wrong}
-use Rattle.program.specs.Layout.{recordSize, fieldsIn, encodeAll}
-use Rattle.program.specs.Machine.{Class, aTest, anItem, classOf, countOf}
+use Rattle.program.specs.Layout.{recordSize, fieldsIn, encodeAll, isTestKind}
+use Rattle.program.specs.Machine.{aTest, anItem, classOf, countOf}
 
 -- each record but an item is followed by its count of items, and no item stands elsewhere
 pub data Grouped : List Record → Type 0 where
@@ -121,7 +121,8 @@ leftAfter left l =
     (pick (eqb left 0) Wrong (Items (left - 1)))
     (pick (eqb left 0) (Items (pick (eqb (fieldsIn l .kind) 3) (fieldsIn l .count) 0)) Wrong)
 
-abbrev onItems : Left → (ℕ → Bool) → Bool
+-- a walk goes on with the items left, and ends where one stands wrong
+abbrev pub onItems : Left → (ℕ → Bool) → Bool
 onItems (Items n) go = go n
 onItems Wrong go = false
 
@@ -143,16 +144,12 @@ unfoldable pub landingIn : ℕ → List ℕ → Bool
 landingIn zero l = true
 landingIn (suc f) l = pick (ltb (length l) recordSize) true (all (landsWell l) (landingIn f (drop recordSize l)))
 
--- a test's kind
-abbrev pub testKind : ℕ → Bool
-testKind k = all (leb k 9) (not (eqb k 4))
-
 unfoldable pub isValid : List ℕ → Bool
 isValid program =
     all (leb recordSize (length program))
     (all (leb (length program) (recordSize * weightLimit))
     (all (eqb (length program % recordSize) 0)
     (all (allRightIn (length program) program)
-    (all (testKind (getD program 0 0))
+    (all (isTestKind (getD program 0 0))
     (all (groupedIn (length program) 0 program)
     (landingIn (length program) program))))))

@@ -3,8 +3,8 @@ ghost use mathlib.Core.Path.{_≡_};
 ghost use Prim.Native.Nat.{_+_, _≤_};
 ghost use lib.ListN.{drop, getD, length};
 ghost use Rattle.octets.specs.Writes.{Written};
-ghost use Rattle.program.specs.Layout.{fieldsIn, laid};
-ghost use Rattle.program.specs.Validity.{rightCode, rightPath, rightItem, rightPeer, rightNetwork, rightTime, rightBare, rightPass, rightFields, rightRecord, allRightIn, leftAfter, groupedIn, landsWell, landingIn, testKind, isValid};
+ghost use Rattle.program.specs.Layout.{fieldsIn, laid, isTestKind};
+ghost use Rattle.program.specs.Validity.{rightCode, rightPath, rightItem, rightPeer, rightNetwork, rightTime, rightBare, rightPass, rightFields, rightRecord, allRightIn, leftAfter, groupedIn, landsWell, landingIn, isValid};
 
 // The fields of a record: kind, variant, count, A and B.
 pub struct Fields {
@@ -16,7 +16,7 @@ pub struct Fields {
 }
 
 // The items that still follow a path record, or that one stands wrong.
-pub enum Left {
+enum Left {
     Items(u32),
     Wrong,
 }
@@ -304,15 +304,24 @@ fn landing(program: &[u8]) -> bool
     true
 }
 
-// Whether a program begins with a test.
-fn starts(program: &[u8]) -> bool
-    ensures { λ r. ⌜ r ≡ testKind (getD (now (program .entry)) 0 0) ⌝ }
+// Whether a kind is that of a test.
+pub fn is_test(kind: u32) -> bool
+    ensures { λ r. ⌜ r ≡ isTestKind kind ⌝ }
 {
-    let kind = octets::number(program, 0, 1);
-    if 9 < kind {
+    if kind == 0 {
         return false;
     }
-    kind != 4
+    if kind == 4 {
+        return false;
+    }
+    kind <= 9
+}
+
+// Whether a program begins with a test.
+fn starts(program: &[u8]) -> bool
+    ensures { λ r. ⌜ r ≡ isTestKind (getD (now (program .entry)) 0 0) ⌝ }
+{
+    is_test(octets::number(program, 0, 1))
 }
 
 // Whether bytes are a valid program.

@@ -13,20 +13,19 @@ use Rattle.attributes.specs.Wire.{Raw, attributeSize, rawOf, rawsOf, codes}
 use Rattle.attributes.specs.Codes.{elem}
 use Rattle.attributes.specs.Bodies.{said, attributesOf}
 use Rattle.attributes.proofs.ByCode.{by-code, said-other}
-use Rattle.truth.specs.Means.{someCode}
 
 -- what a raw attribute says has its code
 said-code : (w : ℕ) (r : Raw) → codeOf (said w r) ≡ r .code
 unfolding said codeOf
 said-code w = by-code (λ body. refl) (λ body. refl) (λ body. refl) (λ body. refl) (λ r u. rw (said-other w r u) refl)
 
-raws-coded : (w code : ℕ) (raws : List Raw) → someCode code (map (said w) raws) ≡ elem code (codes raws)
-unfolding someCode elem codes
+raws-coded : (w code : ℕ) (raws : List Raw) → elem code (map codeOf (map (said w) raws)) ≡ elem code (codes raws)
+unfolding elem codes
 raws-coded w code [] = refl
 raws-coded w code (r ∷ raws) = rw (said-code w r, raws-coded w code raws) refl
 
 -- the attributes of a section have its codes
-pub some-coded : (w code : ℕ) (l : List ℕ) → someCode code (attributesOf w l) ≡ elem code (codes (rawsOf l))
+pub some-coded : (w code : ℕ) (l : List ℕ) → elem code (map codeOf (attributesOf w l)) ≡ elem code (codes (rawsOf l))
 some-coded w code l = raws-coded w code (rawsOf l)
 
 -- a code is one byte

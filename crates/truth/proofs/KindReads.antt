@@ -8,8 +8,8 @@ use Rattle.octets.specs.Choice.{pick}
 use Rattle.program.specs.declared.Fields.{Fields}
 use Rattle.program.specs.Readings.{and, or}
 use Rattle.program.specs.Records.{Record, type, attribute, path, item, peer, loops, bogon, network, time, flip, pass}
-use Rattle.program.specs.Layout.{relationIs, sideIs, comparisonIs, peerIs, recordIs}
-use Rattle.truth.specs.Matching.{operandOf, itemOf, isStart}
+use Rattle.program.specs.Layout.{relationIs, sideIs, comparisonIs, peerIs, isStart, operandOf, recordIs}
+use Rattle.truth.specs.Matching.{itemOf}
 
 module _ (P : Record → Type 0) where
   choose : (k n : ℕ) {r s : Record} → (k ≡ n → P r) → P s → P (pick (eqb k n) r s)

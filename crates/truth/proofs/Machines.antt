@@ -1,13 +1,12 @@
 -- The machine finds the verdict of a reading on a message, in the reading's steps. Assumes nothing.
-use Prim.Native.Nat.{_≤_}
 use mathlib.Core.Path.{_≡_, refl}
 use Rattle.octets.proofs.Encode.{Every}
 use Rattle.message.specs.Message.{Message}
-use Rattle.program.specs.Readings.{Test, typeIs, hasAttribute, pathMatches, peerIs, hasLoop, hasBogon, networkIs, timeIs, Reading, weight, verdict, steps}
+use Rattle.program.specs.Readings.{Test, typeIs, hasAttribute, pathMatches, peerIs, hasLoop, hasBogon, networkIs, timeIs, Reading, verdict, steps}
 use Rattle.program.specs.Records.{Possible}
 use Rattle.program.specs.Compiling.{headOf, itemsOf, records, programOf}
 use Rattle.program.specs.Machine.{machine}
-use Rattle.program.proofs.MachineLaws.{Agrees, machine-reading, steps-least}
+use Rattle.program.proofs.MachineLaws.{Agrees, machine-reading}
 use Rattle.truth.specs.Means.{isTrue}
 use Rattle.truth.specs.Records.{recordTruth}
 
@@ -31,7 +30,3 @@ module _ (m : Message) (r : Reading) (possible : Every Possible (records r)) whe
   -- the machine on a reading's program finds the reading's verdict on the message, in its steps
   pub machine-truth : machine (recordTruth m) (programOf r) ≡ (verdict (isTrue m) r, steps (isTrue m) r)
   machine-truth = machine-reading (truths-agree m) r possible
-
-  -- which are no more than it weighs
-  pub machine-steps : machine (recordTruth m) (programOf r) .1 ≤ weight r
-  machine-steps = rw machine-truth (steps-least (isTrue m) r)

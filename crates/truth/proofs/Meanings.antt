@@ -5,7 +5,7 @@ use native.Mathlib.Omega.{arith}
 use mathlib.Core.Path.{_≡_, refl, sym, _∙_}
 use mathlib.Core.Bool.{Bool, true, false}
 use mathlib.Core.Logic.{_↔_}
-use mathlib.Core.List.{List, [], _∷_}
+use mathlib.Core.List.{List, [], _∷_, map}
 use mathlib.Core.Option.{Option, some, none}
 use lib.ListN.{length, getD}
 use lib.Dec.{eqb}
@@ -25,10 +25,11 @@ use Rattle.aspath.proofs.MeaningLoops.{loop-sound, loop-complete}
 use Rattle.aspath.proofs.MeaningBogons.{some-sound, some-complete}
 use Rattle.aspath.proofs.MeaningPatterns.{matches-sound, matches-complete}
 use Rattle.attributes.specs.Attribute.{Attribute, atomicAggregate, codeOf, firstOf, askPath}
+use Rattle.attributes.specs.Codes.{elem}
 use Rattle.message.specs.Message.{Message, update}
 use Rattle.message.specs.Represents.{addressBits}
 use Rattle.program.specs.Readings.{byAs, byAddress, byBoth, Side, Comparison, equal, below, atMost, above, atLeast, Test, typeIs, hasAttribute, pathMatches, peerIs, hasLoop, hasBogon, networkIs, timeIs}
-use Rattle.truth.specs.Means.{HasPath, HasCode, prefixesOn, HasPrefix, Compares, Means, type, attribute, path, peerNumber, peerAddress, peerBoth, loop, bogon, network, time, someCode, onSegments, onPath, somePrefix, compares, isTrue}
+use Rattle.truth.specs.Means.{HasPath, HasCode, prefixesOn, HasPrefix, Compares, Means, type, attribute, path, peerNumber, peerAddress, peerBoth, loop, bogon, network, time, onSegments, onPath, somePrefix, compares, isTrue}
 use Rattle.truth.proofs.Addresses.{PrefixesAddressed, OperandAddressed, side-addressed}
 
 -- ---- some member of a list passes a test
@@ -60,8 +61,8 @@ module _ {A : Type 0} (passes : A → Bool) where
   passes-complete d (a ∷ more) (suc place) h e = second (passes a) (passes-complete d more place (le-of-suc-le-suc h) e)
 
 -- an attribute of a code is such a member
-code-passes : (code : ℕ) (l : List Attribute) → someCode code l ≡ somePasses (λ a. eqb (codeOf a) code) l
-unfolding someCode somePasses
+code-passes : (code : ℕ) (l : List Attribute) → elem code (map codeOf l) ≡ somePasses (λ a. eqb (codeOf a) code) l
+unfolding elem somePasses
 code-passes code [] = refl
 code-passes code (a ∷ more) = rw (code-passes code more)
 

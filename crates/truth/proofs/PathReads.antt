@@ -13,7 +13,8 @@ use Rattle.aspath.specs.Cursors.{nextAt}
 use Rattle.aspath.specs.Patterns.{fits, matchesHere, matchesSome, matches}
 use Rattle.aspath.proofs.Cursors.{remaining, member-view, end-view}
 use Rattle.program.specs.declared.Fields.{Fields}
-use Rattle.truth.specs.Matching.{endsAt, matchesAt, isStart, patternOf}
+use Rattle.program.specs.Layout.{isStart}
+use Rattle.truth.specs.Matching.{endsAt, matchesAt, patternOf}
 
 module _ (end : Bool) (w : ℕ) (s : List ℕ) where
   module _ (c : Cursor) where

@@ -19,13 +19,12 @@ use Rattle.message.specs.declared.Parts.{Parts}
 use Rattle.message.specs.Message.{Message, update}
 use Rattle.message.specs.Decode.{partOf, messageAt}
 use Rattle.program.specs.declared.Fields.{Fields}
-use Rattle.program.specs.Readings as readings
 use Rattle.program.specs.Records.{Record}
-use Rattle.program.specs.Layout.{recordSize, relationIs, sideIs, comparisonIs, peerIs, fieldsIn, recordIs}
+use Rattle.program.specs.Layout.{recordSize, relationIs, sideIs, comparisonIs, peerIs, operandOf, fieldsIn, recordIs}
 use Rattle.program.specs.Machine.{recordsIn, countOf, itemsAfter}
-use Rattle.truth.specs.Means.{second, onPath, onSegments, somePrefix, prefixesOn, compares, isTrue}
+use Rattle.truth.specs.Means.{second, samePeer, onPath, onSegments, somePrefix, prefixesOn, compares, isTrue}
 use Rattle.truth.specs.Records.{recordTruth, truthAt}
-use Rattle.truth.specs.Matching.{samePeer, operandOf, itemsIn, pathTest}
+use Rattle.truth.specs.Matching.{itemsIn, pathTest}
 use Rattle.truth.proofs.CodeReads.{some-coded}
 use Rattle.truth.proofs.KindReads.{by-kind}
 
@@ -36,12 +35,6 @@ after program at = drop recordSize (drop at program)
 -- the truth of a record with its items in the bytes after it
 abbrev said : Message → List ℕ → Record → Bool
 said m rest r = recordTruth m r (itemsAfter (countOf r) (recordsIn rest))
-
-peer-said : (m : Message) (x : readings.Peer) → isTrue m (readings.peerIs x) ≡ samePeer x (m .peerAddress) (m .peerAs)
-unfolding isTrue
-peer-said m (readings.byAs n) = refl
-peer-said m (readings.byAddress a) = refl
-peer-said m (readings.byBoth a n) = refl
 
 -- a record of no test is false
 none-said : (m : Message) (rest : List ℕ) (f : Fields) → (f .kind ≡ 1 → ⊥) → (f .kind ≡ 2 → ⊥) → (f .kind ≡ 3 → ⊥) → (f .kind ≡ 5 → ⊥)
@@ -71,8 +64,8 @@ module _ (s : List ℕ) (p : Parts) (program : List ℕ) (at : ℕ) {f : Fields}
 
   -- the peer
   pub peer-true : f .kind ≡ 5 → truthAt (messageAt s p) program at ≡ samePeer (peerIs (f .variant) (f .a) (f .b)) (p .address) (p .peer)
-  unfolding recordTruth recordIs messageAt
-  peer-true k = fields-said ∙ rw k (peer-said (messageAt s p) (peerIs (f .variant) (f .a) (f .b)))
+  unfolding recordTruth recordIs isTrue messageAt
+  peer-true k = fields-said ∙ rw k refl
 
   -- the time
   pub time-true : f .kind ≡ 9 → truthAt (messageAt s p) program at ≡ compares (comparisonIs (f .variant)) (p .seconds * second) (f .a * second + f .b)

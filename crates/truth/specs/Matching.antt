@@ -4,7 +4,6 @@ use mathlib.Core.Bool.{Bool, true, false}
 use mathlib.Core.List.{List, [], _∷_}
 use lib.Dec.{eqb, leb}
 use Rattle.octets.specs.Choice.{pick}
-use Rattle.network.specs.declared.Network.{Network}
 use Rattle.aspath.specs.declared.Item.{Item}
 use Rattle.aspath.specs.declared.Cursor.{Cursor}
 use Rattle.aspath.specs.declared.Next.{Next}
@@ -15,22 +14,11 @@ use Rattle.aspath.specs.Loops.{hasLoop}
 use Rattle.aspath.specs.Bogons.{someBogon}
 use Rattle.aspath.specs.Patterns.{Pattern, fits, matches}
 use Rattle.program.specs.declared.Fields.{Fields}
-use Rattle.program.specs.Readings.{Peer, byAs, byAddress, byBoth}
-use Rattle.program.specs.Layout.{itemIs}
+use Rattle.program.specs.Layout.{itemIs, isStart}
 use Rattle.program.specs.Machine.{recordsIn, itemsAfter}
 use Rattle.program.specs.Validity.{all}
 
 -- ---- what the code computes
-
--- a peer against an address and an AS number
-abbrev pub samePeer : Peer → ℕ → ℕ → Bool
-samePeer (byAs n) address number = eqb number n
-samePeer (byAddress a) address number = eqb address a
-samePeer (byBoth a n) address number = all (eqb address a) (eqb number n)
-
--- the network of a network record
-abbrev pub operandOf : Fields → Network
-operandOf f = record { address = f .a; len = f .count }
 
 -- the item of an item record
 abbrev pub itemOf : Fields → Item
@@ -53,10 +41,6 @@ endsAt n = onNext n (λ m after. false) true
 unfoldable pub matchesAt : Bool → List Item → ℕ → List ℕ → Cursor → Bool
 matchesAt end [] w path c = pick end (endsAt (nextAt w path c)) true
 matchesAt end (i ∷ is) w path c = onNext (nextAt w path c) (λ m after. all (fits i m) (matchesAt end is w path after)) false
-
--- variants 1 and 3 have `^`
-abbrev pub isStart : ℕ → Bool
-isStart variant = pick (eqb variant 1) true (eqb variant 3)
 
 -- the pattern of a path record and its items
 abbrev pub patternOf : Fields → List Item → Pattern

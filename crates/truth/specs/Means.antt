@@ -3,7 +3,7 @@ use Prim.Native.Nat.{ℕ, _+_, _*_, _≤_, _<_}
 use mathlib.Core.Path.{_≡_}
 use mathlib.Core.Bool.{Bool, true, false}
 use mathlib.Core.Option.{Option, some, none}
-use mathlib.Core.List.{List, [], _∷_, _++_}
+use mathlib.Core.List.{List, [], _∷_, _++_, map}
 use lib.ListN.{length, getD}
 use lib.Dec.{eqb, leb, ltb}
 use Rattle.octets.specs.Choice.{pick}
@@ -15,7 +15,8 @@ use Rattle.aspath.specs.Loops.{Loop}
 use Rattle.aspath.specs.Loops as loops
 use Rattle.aspath.specs.Bogons.{HasBogon, someBogon}
 use Rattle.aspath.specs.Patterns.{Pattern, Matches, matches}
-use Rattle.attributes.specs.Attribute.{Attribute, atomicAggregate, codeOf, firstOf, askPath}
+use Rattle.attributes.specs.Attribute.{atomicAggregate, codeOf, firstOf, askPath}
+use Rattle.attributes.specs.Codes.{elem}
 use Rattle.message.specs.Message.{Message, update}
 use Rattle.message.specs.Represents.{addressBits}
 use Rattle.program.specs.Validity.{all}
@@ -78,9 +79,11 @@ pub data Means (m : Message) : Test → Type 0 where
 abbrev pub isUpdate : Message → Bool
 isUpdate m = eqb (m .kind) update
 
-unfoldable pub someCode : ℕ → List Attribute → Bool
-someCode code [] = false
-someCode code (a ∷ more) = pick (eqb (codeOf a) code) true (someCode code more)
+-- a peer against an address and an AS number
+abbrev pub samePeer : Peer → ℕ → ℕ → Bool
+samePeer (byAs n) address number = eqb number n
+samePeer (byAddress a) address number = eqb address a
+samePeer (byBoth a n) address number = all (eqb address a) (eqb number n)
 
 abbrev pub onSegments : Option (List Segment) → (List Member → Bool) → Bool
 onSegments none test = false
@@ -103,11 +106,9 @@ compares atLeast a b = leb b a
 
 unfoldable pub isTrue : Message → Test → Bool
 isTrue m (typeIs code) = eqb (m .kind) code
-isTrue m (hasAttribute code) = all (isUpdate m) (someCode code (m .attributes))
+isTrue m (hasAttribute code) = all (isUpdate m) (elem code (map codeOf (m .attributes)))
 isTrue m (pathMatches p) = onPath m (matches p)
-isTrue m (peerIs (byAs n)) = eqb (m .peerAs) n
-isTrue m (peerIs (byAddress a)) = eqb (m .peerAddress) a
-isTrue m (peerIs (byBoth a n)) = all (eqb (m .peerAddress) a) (eqb (m .peerAs) n)
+isTrue m (peerIs p) = samePeer p (m .peerAddress) (m .peerAs)
 isTrue m hasLoop = onPath m loops.hasLoop
 isTrue m hasBogon = onPath m someBogon
 isTrue m (networkIs r n s) = all (isUpdate m) (somePrefix r n (prefixesOn s m))

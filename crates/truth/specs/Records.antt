@@ -1,6 +1,6 @@
 -- The truth of a test record, from its own fields and the item records after it.
 use Prim.Native.Nat.{ℕ, _+_}
-use mathlib.Core.Bool.{Bool, true, false}
+use mathlib.Core.Bool.{Bool, false}
 use mathlib.Core.List.{List}
 use lib.ListN.{drop}
 use Rattle.aspath.specs.declared.Item.{Item}

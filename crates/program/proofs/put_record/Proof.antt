@@ -1,5 +1,4 @@
 -- `program::put_record` meets its contract: one field after another. Assumes nothing.
-use mathlib.Core.List.{[], _∷_}
 use borrow.Author.Needs.{needs}
 use Rattle.octets.specs.Numbers.{bytesOf}
 use Rattle.octets.proofs.Writes.{both}

@@ -1,18 +1,19 @@
 -- `program::starts` meets its contract: the kind is the first byte. Assumes nothing.
+use mathlib.Core.Path.{ap, _∙_}
 use borrow.Author.Needs.{needs}
-use borrow.Author.Tests.{le-leb, lt-leb}
 use Rattle.octets.proofs.Numbers.{number-one}
+use Rattle.program.specs.Layout.{isTestKind}
 use Rattle.program.proofs.starts.Statement.{statement}
 use Rattle.program.proofs.starts.Tie as tie
 
 number-requires : tie.Need-number-requires
 number-requires c κs = search needs
 
-returns : tie.Need-returns
-returns c = rw (← number-one, ← c .before .number .ensures) (search (needs, lt-leb))
+is-test-requires : tie.Need-is-test-requires
+is-test-requires c κs = search needs
 
-returns-2 : tie.Need-returns-2
-returns-2 c = rw (← number-one, ← c .before .number .ensures) (search (needs, le-leb))
+returns : tie.Need-returns
+returns c = c .is-test .ensures ∙ ap isTestKind (c .before .number .ensures ∙ number-one _ 0)
 
 pub starts-spec : {M : Type 1} → statement M
-starts-spec = tie.close (tie.spec number-requires returns returns-2)
+starts-spec = tie.close (tie.spec number-requires is-test-requires returns)

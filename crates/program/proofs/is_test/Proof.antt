@@ -1,8 +1,8 @@
--- `judge::is_test` meets its contract, by the tests of its definition. Assumes nothing.
+-- `program::is_test` meets its contract, by the tests of its definition. Assumes nothing.
 use borrow.Author.Needs.{needs}
 use borrow.Author.Tests.{eq-eqb, ne-eqb}
-use Rattle.judge.proofs.is_test.Statement.{statement}
-use Rattle.judge.proofs.is_test.Tie as tie
+use Rattle.program.proofs.is_test.Statement.{statement}
+use Rattle.program.proofs.is_test.Tie as tie
 
 returns : tie.Need-returns
 returns c = search (needs, eq-eqb)
