@@ -2,7 +2,7 @@
 use Prim.Native.Nat.{ℕ}
 use mathlib.Core.Path.{_≡_, refl, sym, ap, _∙_}
 use mathlib.Core.Bool.{Bool, true, false}
-use mathlib.Core.Option.{Option, none, some}
+use mathlib.Core.Option.{Option, some}
 use mathlib.Core.List.{List, [], _∷_, _++_, append-nil}
 use lib.Dec.{eqb}
 use lib.ListN.{getD, drop}
@@ -75,13 +75,7 @@ pub data Stops (p : ℕ → Bool) : List ℕ → Type 0 where
   end : Stops p []
   other : {b : ℕ} {bs : List ℕ} → p b ≡ false → Stops p (b ∷ bs)
 
--- another byte at the front
-pub after-none : (b : ℕ) {l : List ℕ} → Stops (λ (x : ℕ). eqb x b) l → after b l ≡ none
-unfolding after
-after-none b end = refl
-after-none b (other e) = rw e
-
--- so is the first byte, where 0 stands past the end
+-- another byte is at the front, where 0 stands past the end
 pub first-other : (b : ℕ) {l : List ℕ} → eqb 0 b ≡ false → Stops (λ (x : ℕ). eqb x b) l → eqb (getD l 0 0) b ≡ false
 first-other b z end = z
 first-other b z (other e) = e

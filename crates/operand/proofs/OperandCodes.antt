@@ -2,7 +2,7 @@
 use Prim.Native.Nat.{ℕ}
 use mathlib.Core.Path.{_≡_, refl}
 use mathlib.Core.Bool.{Bool, true, false}
-use mathlib.Core.Option.{Option, none, some}
+use mathlib.Core.Option.{none, some}
 use mathlib.Core.List.{List, [], _∷_}
 use Rattle.octets.specs.Choice.{pick}
 use Rattle.octets.proofs.Choices.{never, each}
@@ -10,7 +10,6 @@ use Rattle.operand.proofs.Holding.{Holds, missing, holds-else, holds-ma
 use Rattle.operand.proofs.Finding.{same-true, distinct, found-sound, found-row}
 use Rattle.operand.proofs.Decimals.{numeral-sound, numeral-complete}
 use Rattle.operand.specs.Codes.{Named, typeNames, attributeNames, CodeOperand, by-name, by-code, same, found, nameOf, codeOf, coded}
-use Rattle.operand.specs.Fronts.{orElse}
 use Rattle.operand.specs.Decimals.{isDigit, numberOn, number, numeral}
 
 -- what stands past the end of a table

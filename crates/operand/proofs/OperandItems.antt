@@ -207,7 +207,3 @@ pub items-complete : {before text behind rest : List ℕ} {is : List Item} → E
 items-complete {before} {text} {behind} {rest} {is} b x k w =
     let m = cut isBlank (before ++ (text ++ (behind ++ rest))) .rest in
     items-fuel (length m) (length m + length is) m (omega arith) (omega arith) ∙ items-bounded (length m + length is) b x k w (omega arith)
-
--- bytes write at most one list of items
-pub items-once : {l : List ℕ} {is js : List Item} → ItemsText l is → ItemsText l js → is ≡ js
-items-once x y = ap (λ (t : Read (List Item)). t .value) (sym (items-complete none x none at-end) ∙ items-complete none y none at-end)

@@ -9,7 +9,7 @@ use Rattle.octets.specs.Choice.{pick}
 use Rattle.network.specs.declared.Network.{Network}
 use Rattle.network.specs.Networks.{masked}
 use Rattle.program.specs.Readings.{Side, eitherSide, announced, withdrawn}
-use Rattle.operand.specs.Fronts.{onward, Read, read, ended, after}
+use Rattle.operand.specs.Fronts.{onward, Read, read, after}
 use Rattle.operand.specs.Decimals.{Below, numeral, number}
 
 -- `a.b.c.d`, each part 0 to 255
@@ -55,10 +55,6 @@ unfoldable pub addressRead : List ℕ → Option (Read ℕ)
 addressRead l =
     onward (part l) (λ a. onward (part (a .rest)) (λ b. onward (part (b .rest)) (λ c. onward (number 256 (c .rest)) (λ d.
     some (read (((a .value * 256 + b .value) * 256 + c .value) * 256 + d .value) (d .rest))))))
-
--- the address that these bytes write
-unfoldable pub addressOf : List ℕ → Option ℕ
-addressOf l = onward (addressRead l) (λ a. ended (a .rest) (a .value))
 
 unfoldable pub networkText : List ℕ → Option Network
 networkText l = onward (addressRead l) (λ a. onward (after 47 (a .rest)) (λ r. onward (numeral 33 r) (λ n. some (masked 32 (a .value) n))))

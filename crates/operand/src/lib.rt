@@ -11,7 +11,6 @@ ghost use Rattle.program.specs.Readings.{byAs};
 ghost use Rattle.program.specs.Records.{item};
 ghost use Rattle.program.specs.Layout.{fields, fieldsOf, encodeAll, relationCode, sideIs};
 ghost use Rattle.operand.specs.Fronts.{onward, orElse};
-ghost use Rattle.token.specs.Next.{isBlank};
 ghost use Rattle.operand.specs.Decimals.{isDigit, numeral, valueOf, Numbered, ReadAt};
 ghost use Rattle.operand.specs.Codes.{same, found, nameOf, codeOf, namedCode, typeNames, attributeNames};
 ghost use Rattle.operand.specs.Addresses.{part, addressRead, networkText};
