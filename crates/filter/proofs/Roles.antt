@@ -13,10 +13,11 @@ use Rattle.token.specs.declared.Lexeme.{Lexeme}
 use Rattle.program.specs.Readings.{and, hasLoop}
 use Rattle.filter.specs.Parsing.{operandRows, roleIn}
 use Rattle.filter.specs.Words.{Role, flag, joins, Entry, vocabulary, Says, wordOf, saidBy, roleOf}
-use Rattle.octets.proofs.Choices.{never}
+use Rattle.octets.specs.Equal.{same}
+use Rattle.octets.proofs.Equals.{same-true}
 use Rattle.operand.proofs.Holding.{holds-some, some-once}
-use Rattle.operand.proofs.Finding.{distinct, same-true, same-itself, found-sound, found-row}
-use Rattle.operand.specs.Codes.{same, found}
+use Rattle.operand.proofs.Finding.{distinct, found-sound, found-row}
+use Rattle.operand.specs.Codes.{found}
 
 -- the words of the vocabulary differ
 pub words-differ : distinct wordOf saidBy vocabulary ≡ true
@@ -63,19 +64,11 @@ pub data Missed (w : List ℕ) : List Entry → List Entry → Type 0 where
   none-missed : {rest : List Entry} → Missed w rest rest
   one-missed : {r : Entry} {rs rest : List Entry} {b : Bool} → b ≡ same w (wordOf r) → b ≡ false → Missed w rs rest → Missed w (r ∷ rs) rest
 
--- words that differ do so either way round
-differs : (v w : List ℕ) → same w v ≡ false → same v w ≡ false
-differs v w e = go (same v w) (same-true v w)
-  where
-    go : (b : Bool) → (b ≡ true → v ≡ w) → b ≡ false
-    go false f = refl
-    go true f = never (sym e ∙ rw (f refl) (same-itself w))
-
 -- what a word says stands in the rows that are left
 pub missed-found : {w : List ℕ} {rows rest : List Entry} → Missed w rows rest → found wordOf saidBy rows w ≡ found wordOf saidBy rest w
 unfolding found
 missed-found none-missed = refl
-missed-found {w} (one-missed {r} d e m) = rw (differs (wordOf r) w (sym d ∙ e)) (missed-found m)
+missed-found {w} (one-missed {r} d e m) = rw (sym d ∙ e) (missed-found m)
 
 -- the words of the tests that have an operand differ
 pub names-differ : distinct wordOf saidBy operandRows ≡ true

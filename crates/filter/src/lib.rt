@@ -72,31 +72,31 @@ pub fn number_of(refusal: Refusal) -> u32
 fn test_name(word: &[u8]) -> Role
     ensures { λ r. ⌜ roleSaid r ≡ found wordOf saidBy operandRows (now (word .entry)) ⌝ }
 {
-    if operand::same(word, b"-type") {
+    if octets::same(word, b"-type") {
         return Role::Named(Name::MessageType);
     }
-    if operand::same(word, b"-attr") {
+    if octets::same(word, b"-attr") {
         return Role::Named(Name::Attribute);
     }
-    if operand::same(word, b"-aspath") {
+    if octets::same(word, b"-aspath") {
         return Role::Named(Name::Path);
     }
-    if operand::same(word, b"-peer") {
+    if octets::same(word, b"-peer") {
         return Role::Named(Name::Peer);
     }
-    if operand::same(word, b"-exact") {
+    if octets::same(word, b"-exact") {
         return Role::Named(Name::Network(Relation::Exact));
     }
-    if operand::same(word, b"-supernet") {
+    if octets::same(word, b"-supernet") {
         return Role::Named(Name::Network(Relation::Supernet));
     }
-    if operand::same(word, b"-subnet") {
+    if octets::same(word, b"-subnet") {
         return Role::Named(Name::Network(Relation::Subnet));
     }
-    if operand::same(word, b"-related") {
+    if octets::same(word, b"-related") {
         return Role::Named(Name::Network(Relation::Related));
     }
-    if operand::same(word, b"-timestamp") {
+    if octets::same(word, b"-timestamp") {
         return Role::Named(Name::Time);
     }
     Role::Unknown
@@ -105,16 +105,16 @@ fn test_name(word: &[u8]) -> Role
 fn said(word: &[u8]) -> Role
     ensures { λ r. ⌜ roleSaid r ≡ roleOf (now (word .entry)) ⌝ }
 {
-    if operand::same(word, b"-and") {
+    if octets::same(word, b"-and") {
         return Role::And;
     }
-    if operand::same(word, b"-or") {
+    if octets::same(word, b"-or") {
         return Role::Or;
     }
-    if operand::same(word, b"-loops") {
+    if octets::same(word, b"-loops") {
         return Role::Loops;
     }
-    if operand::same(word, b"-bogon-asn") {
+    if octets::same(word, b"-bogon-asn") {
         return Role::Bogons;
     }
     test_name(word)

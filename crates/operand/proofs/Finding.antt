@@ -1,58 +1,17 @@
--- Finding a word in a table whose words differ. Assumes nothing.
-use Prim.Native.Nat.{ℕ, zero, suc, _+_, _<_}
-use native.Mathlib.Numerals.{add-one}
+-- Finding a word in a table, whose rows have a word and a value each. Assumes nothing.
+use Prim.Native.Nat.{ℕ, zero, suc, _<_}
 use native.Mathlib.Omega.{arith}
-use mathlib.Core.Path.{_≡_, refl, ap}
+use mathlib.Core.Path.{_≡_, refl, sym}
 use mathlib.Core.Bool.{Bool, true, false}
 use mathlib.Core.Option.{some}
 use mathlib.Core.List.{List, [], _∷_}
-use lib.Dec.{eqb}
-use lib.ListN.{length, getD, drop}
-use lib.Seq.{drop-cons}
-use borrow.Author.Tests.{eqb-true, eq-eqb, ne-eqb}
+use lib.ListN.{length, getD}
 use Rattle.octets.specs.Choice.{pick}
+use Rattle.octets.specs.Equal.{same}
 use Rattle.octets.proofs.Choices.{never, each}
+use Rattle.octets.proofs.Equals.{same-true, same-itself}
 use Rattle.operand.proofs.Holding.{Holds, nothing, held, missing, holds-pick, holds-map}
-use Rattle.operand.specs.Codes.{same, found}
-
--- ---- two words are the same
-
--- words found the same are the same
-pub same-true : (x y : List ℕ) → same x y ≡ true → x ≡ y
-unfolding same
-same-true [] [] e = refl
-same-true [] (b ∷ bs) e = never e
-same-true (a ∷ as′) [] e = never e
-same-true (a ∷ as′) (b ∷ bs) e = go (same-true as′ bs) (each (eqb a b) (same as′ bs) e)
-  where
-    go : (same as′ bs ≡ true → as′ ≡ bs) → (eqb a b ≡ true) × (same as′ bs ≡ true) → a ∷ as′ ≡ b ∷ bs
-    go ih p = let x : a ≡ b = eqb-true a b (p .0) in let y : as′ ≡ bs = ih (p .1) in cc
-
--- a word is the same as itself
-pub same-itself : (x : List ℕ) → same x x ≡ true
-unfolding same
-same-itself [] = refl
-same-itself (a ∷ as′) = rw (eq-eqb a a refl) (same-itself as′)
-
--- words of other lengths differ
-pub same-length : (x y : List ℕ) → (length x ≡ length y → ⊥) → same x y ≡ false
-same-length x y n = go (same x y) (same-true x y)
-  where
-    go : (t : Bool) → (t ≡ true → x ≡ y) → t ≡ false
-    go true f = absurd (n (ap length (f refl)))
-    go false f = refl
-
--- from a place on, where the bytes there differ, and where they are the same
-module _ (x y : List ℕ) (i : ℕ) (h : i < length x) (k : i < length y) where
-  pub same-differ : (getD x i 0 ≡ getD y i 0 → ⊥) → same (drop i x) (drop i y) ≡ false
-  unfolding same
-  same-differ n = rw (drop-cons x i 0, drop-cons y i 0, ne-eqb (getD x i 0) (getD y i 0) n)
-
-  pub same-onward : getD x i 0 ≡ getD y i 0 → same (drop i x) (drop i y) ≡ same (drop (i + 1) x) (drop (i + 1) y)
-  unfolding same
-  same-onward e = rw (drop-cons x i 0, drop-cons y i 0, eq-eqb (getD x i 0) (getD y i 0) e, add-one)
-
--- ---- tables: rows with a word and a value each
+use Rattle.operand.specs.Codes.{found}
 
 module _ {R A : Type 0} (word : R → List ℕ) (value : R → A) where
   -- no two rows have the same word
@@ -71,10 +30,10 @@ module _ {R A : Type 0} (word : R → List ℕ) (value : R → A) where
   pub found-sound : (rows : List R) (d : R) (w : List ℕ) → Holds (Row rows d w) (found word value rows w)
   unfolding found
   found-sound [] d w = nothing
-  found-sound (r ∷ rs) d w = holds-pick (same (word r) w) front (λ e. holds-map behind (found-sound rs d w))
+  found-sound (r ∷ rs) d w = holds-pick (same w (word r)) front (λ e. holds-map behind (found-sound rs d w))
     where
-      front : same (word r) w ≡ true → Holds (Row (r ∷ rs) d w) (some (value r))
-      front e = held (record { place = 0; within = omega arith; word-is = same-true (word r) w e; value-is = refl })
+      front : same w (word r) ≡ true → Holds (Row (r ∷ rs) d w) (some (value r))
+      front e = held (record { place = 0; within = omega arith; word-is = sym (same-true w (word r) e); value-is = refl })
 
       behind : (a : A) → Row rs d w a → Row (r ∷ rs) d w a
       behind a h = record { place = suc (h .place); within = omega (arith, h .within); word-is = h .word-is; value-is = h .value-is }
@@ -85,13 +44,13 @@ module _ {R A : Type 0} (word : R → List ℕ) (value : R → A) where
   found-complete [] d i t l = absurd (omega arith)
   found-complete (r ∷ rs) d zero t l = rw (same-itself (word r))
   found-complete (r ∷ rs) d (suc i) t l =
-      go (each (missing (found word value rs (word r))) (distinct rs) t) (λ u. found-complete rs d i u (omega arith)) (same (word r) (word (getD rs i d))) (same-true (word r) (word (getD rs i d)))
+      go (each (missing (found word value rs (word r))) (distinct rs) t) (λ u. found-complete rs d i u (omega arith)) (same (word (getD rs i d)) (word r)) (same-true (word (getD rs i d)) (word r))
     where
       go : (missing (found word value rs (word r)) ≡ true) × (distinct rs ≡ true) → (distinct rs ≡ true → found word value rs (word (getD rs i d)) ≡ some (value (getD rs i d)))
-          → (b : Bool) → (b ≡ true → word r ≡ word (getD rs i d)) → pick b (some (value r)) (found word value rs (word (getD rs i d))) ≡ some (value (getD rs i d))
+          → (b : Bool) → (b ≡ true → word (getD rs i d) ≡ word r) → pick b (some (value r)) (found word value rs (word (getD rs i d))) ≡ some (value (getD rs i d))
       go m ih false f = ih (m .1)
       go m ih true f =
-          let e : found word value rs (word r) ≡ some (value (getD rs i d)) = rw (f refl) (ih (m .1)) in
+          let e : found word value rs (word r) ≡ some (value (getD rs i d)) = rw (← f refl) (ih (m .1)) in
           never (rw e at (m .0))
 
   -- so a row's value is what is found under its word

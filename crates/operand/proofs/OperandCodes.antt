@@ -5,11 +5,13 @@ use mathlib.Core.Bool.{Bool, true, false}
 use mathlib.Core.Option.{none, some}
 use mathlib.Core.List.{List, [], _∷_}
 use Rattle.octets.specs.Choice.{pick}
+use Rattle.octets.specs.Equal.{same}
 use Rattle.octets.proofs.Choices.{never, each}
+use Rattle.octets.proofs.Equals.{same-true}
 use Rattle.operand.proofs.Holding.{Holds, missing, holds-else, holds-map}
-use Rattle.operand.proofs.Finding.{same-true, distinct, found-sound, found-row}
+use Rattle.operand.proofs.Finding.{distinct, found-sound, found-row}
 use Rattle.operand.proofs.Decimals.{numeral-sound, numeral-complete}
-use Rattle.operand.specs.Codes.{Named, typeNames, attributeNames, CodeOperand, by-name, by-code, same, found, nameOf, codeOf, coded}
+use Rattle.operand.specs.Codes.{Named, typeNames, attributeNames, CodeOperand, by-name, by-code, found, nameOf, codeOf, coded}
 use Rattle.operand.specs.Decimals.{isDigit, numberOn, number, numeral}
 
 -- what stands past the end of a table
@@ -35,13 +37,13 @@ pub record Telling (names : List Named) : Type 0 where
 found-none : (names : List Named) (l : List ℕ) {n : ℕ} → lettered names ≡ true → numeral 256 l ≡ some n → found nameOf codeOf names l ≡ none
 unfolding found lettered
 found-none [] l t e = refl
-found-none (r ∷ rs) l {n} t e = go (each (missing (numeral 256 (r .name))) (lettered rs) t) (λ u. found-none rs l u e) (same (r .name) l) (same-true (r .name) l)
+found-none (r ∷ rs) l {n} t e = go (each (missing (numeral 256 (r .name))) (lettered rs) t) (λ u. found-none rs l u e) (same l (r .name)) (same-true l (r .name))
   where
     go : (missing (numeral 256 (r .name)) ≡ true) × (lettered rs ≡ true) → (lettered rs ≡ true → found nameOf codeOf rs l ≡ none)
-        → (b : Bool) → (b ≡ true → r .name ≡ l) → pick b (some (r .code)) (found nameOf codeOf rs l) ≡ none
+        → (b : Bool) → (b ≡ true → l ≡ r .name) → pick b (some (r .code)) (found nameOf codeOf rs l) ≡ none
     go m ih false f = ih (m .1)
     go m ih true f =
-        let d : numeral 256 (r .name) ≡ some n = rw (f refl) e in
+        let d : numeral 256 (r .name) ≡ some n = rw (← f refl) e in
         never (rw d at (m .0))
 
 -- every code is found

@@ -1,12 +1,12 @@
 -- `-type` and `-attr`: a name or a code 0 to 255.
 use Prim.Native.Nat.{ℕ, _<_}
 use mathlib.Core.Path.{_≡_}
-use mathlib.Core.Bool.{Bool, true, false}
 use mathlib.Core.Option.{Option, none, some}
 use mathlib.Core.List.{List, [], _∷_}
 use lib.ListN.{length, getD}
 use lib.Dec.{eqb}
 use Rattle.octets.specs.Choice.{pick}
+use Rattle.octets.specs.Equal.{same}
 use Rattle.operand.specs.Fronts.{orElse}
 use Rattle.operand.specs.Decimals.{Below, numeral}
 
@@ -49,16 +49,10 @@ pub data CodeOperand (names : List Named) (bs : List ℕ) : ℕ → Type 0 where
 
 -- ---- what the code computes
 
-unfoldable pub same : List ℕ → List ℕ → Bool
-same [] [] = true
-same [] (b ∷ bs) = false
-same (a ∷ as′) [] = false
-same (a ∷ as′) (b ∷ bs) = pick (eqb a b) (same as′ bs) false
-
 -- the value of the first row with a word
 unfoldable pub found : {R A : Type 0} → (R → List ℕ) → (R → A) → List R → List ℕ → Option A
 found word value [] w = none
-found word value (r ∷ rs) w = pick (same (word r) w) (some (value r)) (found word value rs w)
+found word value (r ∷ rs) w = pick (same w (word r)) (some (value r)) (found word value rs w)
 
 -- a row's name
 abbrev pub nameOf : Named → List ℕ

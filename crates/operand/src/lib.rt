@@ -12,7 +12,7 @@ ghost use Rattle.program.specs.Records.{item};
 ghost use Rattle.program.specs.Layout.{fields, fieldsOf, encodeAll, relationCode, sideIs};
 ghost use Rattle.operand.specs.Fronts.{onward, orElse};
 ghost use Rattle.operand.specs.Decimals.{isDigit, numeral, valueOf, Numbered, ReadAt};
-ghost use Rattle.operand.specs.Codes.{same, found, nameOf, codeOf, namedCode, typeNames, attributeNames};
+ghost use Rattle.operand.specs.Codes.{found, nameOf, codeOf, namedCode, typeNames, attributeNames};
 ghost use Rattle.operand.specs.Addresses.{part, addressRead, networkText};
 ghost use Rattle.operand.specs.Peers.{behindAddress};
 ghost use Rattle.operand.specs.Patterns.{BlanksEnd, OptionalEnd, ItemAt, ItemsAt, itemsIn};
@@ -133,40 +133,23 @@ fn numeral(s: &[u8], at: usize, limit: u64) -> Number
     Number::Read { value, end }
 }
 
-// Whether two words are the same.
-pub fn same(a: &[u8], b: &[u8]) -> bool
-    ensures { λ r. ⌜ r ≡ same (now (a .entry)) (now (b .entry)) ⌝ }
-{
-    if a.len() != b.len() {
-        return false;
-    }
-    let mut i = 0;
-    while i < a.len() {
-        if a[i] != b[i] {
-            return false;
-        }
-        i += 1;
-    }
-    true
-}
-
 // The code of a message type's name, 0 where it is none.
 fn type_named(bytes: &[u8]) -> u32
     ensures { λ r. ⌜ namedCode r ≡ found nameOf codeOf typeNames (now (bytes .entry)) ⌝ }
 {
-    if same(b"OPEN", bytes) {
+    if octets::same(bytes, b"OPEN") {
         return 1;
     }
-    if same(b"UPDATE", bytes) {
+    if octets::same(bytes, b"UPDATE") {
         return 2;
     }
-    if same(b"NOTIFICATION", bytes) {
+    if octets::same(bytes, b"NOTIFICATION") {
         return 3;
     }
-    if same(b"KEEPALIVE", bytes) {
+    if octets::same(bytes, b"KEEPALIVE") {
         return 4;
     }
-    if same(b"ROUTE_REFRESH", bytes) {
+    if octets::same(bytes, b"ROUTE_REFRESH") {
         return 5;
     }
     0
@@ -176,19 +159,19 @@ fn type_named(bytes: &[u8]) -> u32
 fn later_attribute_named(bytes: &[u8]) -> u32
     ensures { λ r. ⌜ namedCode r ≡ found nameOf codeOf (drop 8 attributeNames) (now (bytes .entry)) ⌝ }
 {
-    if same(b"MP_REACH_NLRI", bytes) {
+    if octets::same(bytes, b"MP_REACH_NLRI") {
         return 14;
     }
-    if same(b"MP_UNREACH_NLRI", bytes) {
+    if octets::same(bytes, b"MP_UNREACH_NLRI") {
         return 15;
     }
-    if same(b"AS4_PATH", bytes) {
+    if octets::same(bytes, b"AS4_PATH") {
         return 17;
     }
-    if same(b"AS4_AGGREGATOR", bytes) {
+    if octets::same(bytes, b"AS4_AGGREGATOR") {
         return 18;
     }
-    if same(b"LARGE_COMMUNITY", bytes) {
+    if octets::same(bytes, b"LARGE_COMMUNITY") {
         return 32;
     }
     0
@@ -198,28 +181,28 @@ fn later_attribute_named(bytes: &[u8]) -> u32
 fn attribute_named(bytes: &[u8]) -> u32
     ensures { λ r. ⌜ namedCode r ≡ found nameOf codeOf attributeNames (now (bytes .entry)) ⌝ }
 {
-    if same(b"ORIGIN", bytes) {
+    if octets::same(bytes, b"ORIGIN") {
         return 1;
     }
-    if same(b"AS_PATH", bytes) {
+    if octets::same(bytes, b"AS_PATH") {
         return 2;
     }
-    if same(b"NEXT_HOP", bytes) {
+    if octets::same(bytes, b"NEXT_HOP") {
         return 3;
     }
-    if same(b"MULTI_EXIT_DISC", bytes) {
+    if octets::same(bytes, b"MULTI_EXIT_DISC") {
         return 4;
     }
-    if same(b"LOCAL_PREF", bytes) {
+    if octets::same(bytes, b"LOCAL_PREF") {
         return 5;
     }
-    if same(b"ATOMIC_AGGREGATE", bytes) {
+    if octets::same(bytes, b"ATOMIC_AGGREGATE") {
         return 6;
     }
-    if same(b"AGGREGATOR", bytes) {
+    if octets::same(bytes, b"AGGREGATOR") {
         return 7;
     }
-    if same(b"COMMUNITY", bytes) {
+    if octets::same(bytes, b"COMMUNITY") {
         return 8;
     }
     later_attribute_named(bytes)

@@ -18,7 +18,8 @@ use Rattle.token.specs.Next.{run}
 use Rattle.operand.specs.Fronts.{after, optional, cut}
 use Rattle.token.specs.Next.{isBlank}
 use Rattle.operand.specs.Decimals.{isDigit, numberOn, number, numeral}
-use Rattle.operand.specs.Codes.{same, found}
+use Rattle.octets.specs.Equal.{same}
+use Rattle.operand.specs.Codes.{found}
 use Rattle.operand.specs.Addresses.{part, addressRead, networkText, networkOperand}
 use Rattle.operand.specs.Peers.{peerOperand}
 use Rattle.operand.specs.Patterns.{itemRead, itemsRead, patternOperand}

@@ -9,7 +9,7 @@ use Rattle.operand.proofs.attribute_named.Tie as tie
 use Rattle.operand.proofs.attribute_named.Reads as reads
 use Rattle.operand.proofs.attribute_named.Lts as lts
 use Rattle.operand.proofs.later_attribute_named.Reads as later-attribute-named-reads
-use Rattle.operand.proofs.same.Reads as same-reads
+use Rattle.octets.proofs.same.Reads as same-reads
 
 -- the first names are passed, one by one
 passed-1 : (c : lts.Else1 (same-reads.Asked, same-reads.Learnt, later-attribute-named-reads.Asked, later-attribute-named-reads.Learnt) reads.Pre reads.Post) → found nameOf codeOf attributeNames (now (c .before .before .before .before .args .bytes)) ≡ found nameOf codeOf (drop 1 attributeNames) (now (c .before .before .before .before .args .bytes))

@@ -8,7 +8,7 @@ use Rattle.operand.proofs.type_named.Statement.{statement}
 use Rattle.operand.proofs.type_named.Tie as tie
 use Rattle.operand.proofs.type_named.Reads as reads
 use Rattle.operand.proofs.type_named.Lts as lts
-use Rattle.operand.proofs.same.Reads as same-reads
+use Rattle.octets.proofs.same.Reads as same-reads
 
 -- the first names are passed, one by one
 passed-1 : (c : lts.Else1 (same-reads.Asked, same-reads.Learnt) reads.Pre reads.Post) → found nameOf codeOf typeNames (now (c .before .before .before .before .args .bytes)) ≡ found nameOf codeOf (drop 1 typeNames) (now (c .before .before .before .before .args .bytes))
