@@ -4,7 +4,9 @@ use mathlib.Core.Bool.{Bool, true, false}
 use mathlib.Core.Option.{Option, none, some}
 use mathlib.Core.List.{List, [], _∷_}
 use lib.Dec.{eqb}
+use lib.ListN.{take, drop}
 use Rattle.octets.specs.Choice.{pick}
+use Rattle.token.specs.Next.{run}
 
 -- go on with an answer
 abbrev pub onward : {A B : Type 0} → Option A → (A → Option B) → Option B
@@ -42,7 +44,6 @@ chosen l (some r) = read true r
 unfoldable pub optional : ℕ → List ℕ → Read Bool
 optional b l = chosen l (after b l)
 
--- the run, and what is left
+-- the bytes at the front that pass a test, and what is left behind them
 unfoldable pub cut : (ℕ → Bool) → List ℕ → Read (List ℕ)
-cut p [] = read [] []
-cut p (b ∷ bs) = pick (p b) (read (b ∷ cut p bs .value) (cut p bs .rest)) (read [] (b ∷ bs))
+cut p l = read (take (run p l) l) (drop (run p l) l)

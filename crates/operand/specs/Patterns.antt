@@ -101,12 +101,6 @@ itemsIn l = listed l .value
 
 -- ---- what the answers of the code say, by places
 
--- the blanks from a place on end at r
-pub record BlanksEnd (s : List ℕ) (at r : ℕ) : Type 0 where
-  pub left : drop r s ≡ cut isBlank (drop at s) .rest
-  pub low : at ≤ r
-  pub high : r ≤ length s
-
 -- r is the place after a byte b that may stand at a place
 pub record OptionalEnd (b : ℕ) (s : List ℕ) (at r : ℕ) : Type 0 where
   pub left : drop r s ≡ optional b (drop at s) .rest

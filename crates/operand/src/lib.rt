@@ -15,7 +15,7 @@ ghost use Rattle.operand.specs.Decimals.{isDigit, numeral, valueOf, Numb
 ghost use Rattle.operand.specs.Codes.{found, nameOf, codeOf, namedCode, typeNames, attributeNames};
 ghost use Rattle.operand.specs.Addresses.{part, addressRead, networkText};
 ghost use Rattle.operand.specs.Peers.{behindAddress};
-ghost use Rattle.operand.specs.Patterns.{BlanksEnd, OptionalEnd, ItemAt, ItemsAt, itemsIn};
+ghost use Rattle.operand.specs.Patterns.{OptionalEnd, ItemAt, ItemsAt, itemsIn};
 ghost use Rattle.operand.specs.Times.{fractionOf, Signed, Digited};
 ghost use Rattle.operand.specs.Tests.{meaning, meantOf, meantBy, codeMeant, peerMeant, networkMeant};
 use aspath::Item;
@@ -313,21 +313,6 @@ fn network_operand(relation: Relation, bytes: &[u8]) -> Meant
     network_record(bytes, 0, relation, 0)
 }
 
-// Where the blanks at a place end.
-fn blanks_end(s: &[u8], at: usize) -> usize
-    requires { ⌜ at ≤ length (now s) ⌝ }
-    ensures { λ r. ⌜ BlanksEnd (now (s .entry)) at r ⌝ }
-{
-    let mut p = at;
-    while p < s.len() {
-        if !token::is_blank(s[p]) {
-            return p;
-        }
-        p += 1;
-    }
-    p
-}
-
 // The record of a peer with an address: alone, or with blanks and an AS number behind it.
 fn peer_behind(bytes: &[u8], at: usize, address: u32) -> Meant
     requires { ⌜ at ≤ length (now bytes) ⌝ }
@@ -339,7 +324,7 @@ fn peer_behind(bytes: &[u8], at: usize, address: u32) -> Meant
     if !token::is_blank(bytes[at]) {
         return Meant::Broken;
     }
-    let next = blanks_end(bytes, at + 1);
+    let next = token::blanks_end(bytes, at + 1);
     let Number::Read { value, end: _ } = numeral(bytes, next, 4294967296) else {
         return Meant::Broken;
     };
@@ -530,7 +515,7 @@ fn items_at(s: &[u8], at: usize) -> Items
             return Items { count, end: next };
         };
         count += 1;
-        next = blanks_end(s, end);
+        next = token::blanks_end(s, end);
         if next == end {
             return Items { count, end: next };
         }
@@ -542,12 +527,12 @@ fn pattern(bytes: &[u8]) -> Meant
     requires { ⌜ length (now bytes) ≤ 4096 ⌝ }
     ensures { λ r. ⌜ r ≡ meantOf (meaning Name.Path (now (bytes .entry))) ⌝ }
 {
-    let start = blanks_end(bytes, 0);
+    let start = token::blanks_end(bytes, 0);
     let caret = optional_end(bytes, start, b'^');
-    let items = items_at(bytes, blanks_end(bytes, caret));
+    let items = items_at(bytes, token::blanks_end(bytes, caret));
     let end = items.end;
     let dollar = optional_end(bytes, end, b'$');
-    if blanks_end(bytes, dollar) != bytes.len() {
+    if token::blanks_end(bytes, dollar) != bytes.len() {
         return Meant::Broken;
     }
     let variant = (caret - start) as u32 + 2 * ((dollar - end) as u32);
@@ -614,15 +599,15 @@ pub fn put_items(bytes: &[u8], out: &mut [u8], at: usize) -> usize
     ensures { λ r. ⌜ Written (now (out .entry)) at (encodeAll (map item (itemsIn (now (bytes .entry))))) (now (out .exit)) r ⌝ }
 {
     let mut place = at;
-    let start = blanks_end(bytes, 0);
-    let mut p = blanks_end(bytes, optional_end(bytes, start, b'^'));
+    let start = token::blanks_end(bytes, 0);
+    let mut p = token::blanks_end(bytes, optional_end(bytes, start, b'^'));
     loop {
         let read = item_at(bytes, p);
         let ItemRead::Read { item, end } = read else {
             return place;
         };
         place = program::put_record(out, place, item_fields(item));
-        p = blanks_end(bytes, end);
+        p = token::blanks_end(bytes, end);
         if p == end {
             return place;
         }
