@@ -13,13 +13,14 @@ use Rattle.aspath.specs.declared.Item.the-variants.{Number, Other, Any}
 use Rattle.program.specs.Records.{item}
 use Rattle.program.specs.Layout.{fieldsOf, laid, encodeAll}
 use Rattle.operand.proofs.Holding.{holds-some}
+use Rattle.operand.proofs.Numbers.{number-moves}
 use Rattle.operand.proofs.Places.{after-here, after-other, after-end}
 use Rattle.operand.proofs.OperandItems.{item-shorter, cut-shorter, items-fuel}
 use Rattle.operand.specs.declared.ItemRead.{ItemRead}
 use Rattle.operand.specs.declared.ItemRead.the-variants.{Read as Found, Missing}
 use Rattle.operand.specs.declared.Number.{Number as Numbers}
 use Rattle.operand.specs.declared.Number.the-variants.{Read as Numeral, Missing as Unread}
-use Rattle.operand.specs.Decimals.{leftAt, Numbered}
+use Rattle.operand.specs.Decimals.{number, leftAt, ReadAt}
 use Rattle.operand.specs.Fronts.{Read, read, after, optional, cut}
 use Rattle.token.specs.Next.{isBlank, runEnd}
 use Rattle.operand.proofs.Blanks.{blanks-left, blanks-count, blanks-within}
@@ -47,13 +48,11 @@ none-at e = record { said = sym e; ends = λ i e h. let z : _≡_ {A = ℕ} 0 1 
 one-at : {s : List ℕ} {at e : ℕ} {i : Item} → itemRead (drop at s) ≡ some (read i (drop e s)) → at < e → e ≤ length s → ItemAt s at (Found i e)
 one-at {s} {at} {e} h l u = record { said = sym h; ends = λ j f z. let w : e ≡ f = cc in (omega arith, omega arith) }
 
-module _ {s : List ℕ} {at : ℕ} {n : Numbers} (x : Numbered s at (2 ^ 32) n) where
+module _ {s : List ℕ} {at : ℕ} {n : Numbers} (x : ReadAt (number (2 ^ 32)) s at (2 ^ 32) n) where
   -- a number
   pub item-number : {v e : ℕ} → n ≡ Numeral v e → ItemAt s at (Found (Number v) e)
   unfolding itemRead
-  item-number {v} {e} z =
-      let l = x .ends v e z in
-      one-at (rw (sym (x .said) ∙ ap (leftAt s) z)) (l .0) (l .1)
+  item-number {v} {e} z = one-at (rw (sym (x .said) ∙ ap (leftAt s) z)) (number-moves x z) (x .ends v e z .0)
 
   module _ (m : n ≡ Unread) where
     -- nothing
@@ -71,7 +70,7 @@ module _ {s : List ℕ} {at : ℕ} {n : Numbers} (x : Numbered s at (2 ^ 32) n) 
     unfolding itemRead
     item-neither h p q = none-at (rw (sym (x .said) ∙ ap (leftAt s) m, after-other s at 46 h p, after-other s at 33 h q))
 
-    module _ (h : at < length s) (p : getD s at 0 ≡ 46 → ⊥) (q : getD s at 0 ≡ 33) {o : Numbers} (y : Numbered s (at + 1) (2 ^ 32) o) where
+    module _ (h : at < length s) (p : getD s at 0 ≡ 46 → ⊥) (q : getD s at 0 ≡ 33) {o : Numbers} (y : ReadAt (number (2 ^ 32)) s (at + 1) (2 ^ 32) o) where
       -- `!` before no number
       pub item-bare : o ≡ Unread → ItemAt s at Missing
       unfolding itemRead
@@ -81,8 +80,8 @@ module _ {s : List ℕ} {at : ℕ} {n : Numbers} (x : Numbered s at (2 ^ 32) n) 
       pub item-other : {v e : ℕ} → o ≡ Numeral v e → ItemAt s at (Found (Other v) e)
       unfolding itemRead
       item-other {v} {e} z =
-          let l = y .ends v e z in
-          one-at (rw (sym (x .said) ∙ ap (leftAt s) m, after-other s at 46 h p, after-here s at 33 h q, sym (y .said) ∙ ap (leftAt s) z)) (omega arith) (l .1)
+          let l = number-moves y z in
+          one-at (rw (sym (x .said) ∙ ap (leftAt s) m, after-other s at 46 h p, after-here s at 33 h q, sym (y .said) ∙ ap (leftAt s) z)) (omega arith) (y .ends v e z .0)
 
 -- ---- items
 

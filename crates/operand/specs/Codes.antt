@@ -5,9 +5,8 @@ use mathlib.Core.Option.{Option, none, some}
 use mathlib.Core.List.{List, [], _∷_}
 use lib.ListN.{length, getD}
 use lib.Dec.{eqb}
-use Rattle.octets.specs.Choice.{pick}
+use Rattle.octets.specs.Choice.{pick, orElse}
 use Rattle.octets.specs.Equal.{same}
-use Rattle.operand.specs.Fronts.{orElse}
 use Rattle.operand.specs.Decimals.{Below, numeral}
 
 pub record Named : Type 0 where

@@ -65,7 +65,3 @@ valueOf missing = none
 pub record ReadAt (reader : List ℕ → Option (Read ℕ)) (s : List ℕ) (at limit : ℕ) (r : Number) : Type 0 where
   pub said : leftAt s r ≡ reader (drop at s)
   pub ends : (v e : ℕ) → r ≡ readTo v e → (e ≤ length s) × (v < limit)
-
-pub record Numbered (s : List ℕ) (at limit : ℕ) (r : Number) : Type 0 where
-  pub said : leftAt s r ≡ number limit (drop at s)
-  pub ends : (v e : ℕ) → r ≡ readTo v e → (at < e) × (e ≤ length s) × (v < limit)

@@ -13,11 +13,6 @@ abbrev pub onward : {A B : Type 0} → Option A → (A → Option B) → Option 
 onward none f = none
 onward (some a) f = f a
 
--- the first of two answers
-abbrev pub orElse : {A : Type 0} → Option A → Option A → Option A
-orElse none o = o
-orElse (some a) o = some a
-
 -- what was read at the front, and what is left behind it
 pub record Read (A : Type 0) : Type 0 where
   pub value : A

@@ -5,12 +5,12 @@ use mathlib.Core.Bool.{Bool, true, false}
 use mathlib.Core.Option.{Option, none, some}
 use mathlib.Core.List.{List, [], _∷_, _++_}
 use lib.ListN.{length, drop}
-use Rattle.octets.specs.Choice.{pick}
+use Rattle.octets.specs.Choice.{pick, orElse}
 use Rattle.aspath.specs.declared.Item.{Item}
 use Rattle.aspath.specs.declared.Item.the-variants.{Number, Other, Any}
 use Rattle.aspath.specs.Patterns.{Pattern}
 use Rattle.token.specs.Texts.{Blank, Every}
-use Rattle.operand.specs.Fronts.{onward, orElse, Read, read, ended, after, optional, cut}
+use Rattle.operand.specs.Fronts.{onward, Read, read, ended, after, optional, cut}
 use Rattle.token.specs.Next.{isBlank}
 use Rattle.operand.specs.Decimals.{AsNumber, number}
 use Rattle.operand.specs.declared.ItemRead.{ItemRead}

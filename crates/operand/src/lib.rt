@@ -5,13 +5,13 @@ ghost use mathlib.Core.List.{map};
 ghost use mathlib.Core.Option.{some};
 ghost use lib.ListN.{length, drop};
 ghost use lib.Dec.{leb};
-ghost use Rattle.octets.specs.Choice.{pick};
+ghost use Rattle.octets.specs.Choice.{pick, orElse};
 ghost use Rattle.octets.specs.Writes.{Written};
 ghost use Rattle.program.specs.Readings.{byAs};
 ghost use Rattle.program.specs.Records.{item};
 ghost use Rattle.program.specs.Layout.{fields, fieldsOf, encodeAll, relationCode, sideIs};
-ghost use Rattle.operand.specs.Fronts.{onward, orElse};
-ghost use Rattle.operand.specs.Decimals.{isDigit, numeral, valueOf, Numbered, ReadAt};
+ghost use Rattle.operand.specs.Fronts.{onward};
+ghost use Rattle.operand.specs.Decimals.{isDigit, number, numeral, valueOf, ReadAt};
 ghost use Rattle.operand.specs.Codes.{found, nameOf, codeOf, namedCode, typeNames, attributeNames};
 ghost use Rattle.operand.specs.Addresses.{part, addressRead, networkText};
 ghost use Rattle.operand.specs.Peers.{behindAddress};
@@ -96,7 +96,7 @@ fn number_between(at: usize, end: usize, value: u32) -> Number
 // The number at a place: no leading zeros, below the limit.
 fn number_at(s: &[u8], at: usize, limit: u64) -> Number
     requires { ⌜ (at ≤ length (now s)) × (limit ≤ 4294967296) ⌝ }
-    ensures { λ r. ⌜ Numbered (now (s .entry)) at limit r ⌝ }
+    ensures { λ r. ⌜ ReadAt (number limit) (now (s .entry)) at limit r ⌝ }
 {
     let mut n: u64 = 0;
     let mut end = at;

@@ -51,7 +51,7 @@ returns-4 c = let a = c .before .before .before .before .before .before .before 
     let g = c .before .before .before .before .value .given in
     let b = c .before .before .before .before .before .before .number-at .ensures .ends (g .0 .0) (g .0 .1 .0) (g .1) in
     read-some part s (a .at) 256 (g .0 .0) (g .0 .1 .0 + 1)
-    (rw (said-some s (c .before .before .before .before .before .before .number-at .ensures .said) (g .1), after-here s (g .0 .1 .0) 46 (c .before .before .if1 .left) (c .if2 .left))) (omega arith) (b .2)
+    (rw (said-some s (c .before .before .before .before .before .before .number-at .ensures .said) (g .1), after-here s (g .0 .1 .0) 46 (c .before .before .if1 .left) (c .if2 .left))) (omega arith) (b .1)
 
 pub part-spec : {M : Type 1} → statement M
 part-spec =
