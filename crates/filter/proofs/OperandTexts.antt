@@ -126,7 +126,7 @@ pattern-meant p {text} i q f =
       behind-blank = none;
       after-blank = none;
       items-are = i;
-      some = f;
+      not-empty = f;
     }))
     (join (mark-quotable (p .start) 94 refl) (join q (join (mark-quotable (p .end) 36 refl) nothing)))
     (omega arith)

@@ -100,7 +100,7 @@ items-possible (more t g h x e) = every-more (item-possible t) (items-possible x
 
 -- a pattern has an item, `^` or `$`
 pattern-possible : {l : List ℕ} {p : Pattern} → PatternOperand l p → PatternPossible p
-pattern-possible {p = p} x = record { each = items-possible (x .items-are); some = λ s e i. x .some s e (no-items (p .items) i) }
+pattern-possible {p = p} x = record { each = items-possible (x .items-are); some = λ s e i. x .not-empty s e (no-items (p .items) i) }
   where
     no-items : (is : List Item) → length is ≡ 0 → is ≡ []
     no-items [] h = refl

@@ -7,7 +7,7 @@ use Rattle.operand.specs.Decimals.{Below}
 use Rattle.operand.proofs.Holding.{Holds, held, holds-onward}
 use Rattle.operand.proofs.FrontReads.{Got, Stops, other, after-sound, after-complete}
 use Rattle.operand.proofs.Decimals.{number-sound, number-complete}
-use Rattle.operand.specs.Addresses.{Address, part, addressRead}
+use Rattle.operand.specs.Addresses.{Address, partRead, addressRead}
 use Rattle.operand.specs.Fronts.{Read, read}
 use Rattle.operand.specs.Decimals.{isDigit}
 
@@ -19,13 +19,13 @@ record Parted (l : List ℕ) (r : Read ℕ) : Type 0 where
   says : Below 256 text (r .value)
 
 -- a part that was read stands at the front
-part-sound : (l : List ℕ) → Holds (Parted l) (part l)
-unfolding part
+part-sound : (l : List ℕ) → Holds (Parted l) (partRead l)
+unfolding partRead
 part-sound l = holds-onward (number-sound 256 l) (λ n g. holds-onward (after-sound 46 (n .rest)) (λ r e. held (record { text = g .text; joined = rw (← e) (g .joined); says = g .says })))
 
 -- and every part is read
-part-complete : {text : List ℕ} {n : ℕ} → Below 256 text n → (rest : List ℕ) → part (text ++ (46 ∷ rest)) ≡ some (read n rest)
-unfolding part isDigit
+part-complete : {text : List ℕ} {n : ℕ} → Below 256 text n → (rest : List ℕ) → partRead (text ++ (46 ∷ rest)) ≡ some (read n rest)
+unfolding partRead isDigit
 part-complete {text} {n} x rest = rw (number-complete {rest = 46 ∷ rest} x (other refl), after-complete 46 rest)
 
 -- ---- addresses

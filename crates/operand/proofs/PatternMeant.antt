@@ -16,7 +16,7 @@ use Rattle.operand.specs.declared.Items.{Items}
 use Rattle.operand.specs.declared.Meant.the-variants.{Head, Broken}
 use Rattle.operand.specs.declared.Name.the-variants.{Path as pathName}
 use Rattle.operand.specs.Fronts.{Read, ended, optional}
-use Rattle.operand.specs.Patterns.{allItems, somewhat, listed, patternOperand, itemsIn, OptionalEnd, ItemsAt}
+use Rattle.operand.specs.Patterns.{allItems, notEmpty, patternItems, patternOperand, itemsAtFront, OptionalEnd, ItemsAt}
 use Rattle.operand.specs.Tests.{meaning, meantOf}
 use Rattle.token.specs.Next.{isBlank, runEnd}
 use Rattle.operand.proofs.Blanks.{blanks-left, blanks-within}
@@ -29,7 +29,7 @@ signs false true start caret end dollar e f = omega arith
 signs false false start caret end dollar e f = omega arith
 
 -- a pattern is wholly empty where it has no sign and no item
-empty-found : (x y : Bool) (is : List Item) → endsCode x y + length is ≡ 0 → somewhat x is y ≡ false
+empty-found : (x y : Bool) (is : List Item) → endsCode x y + length is ≡ 0 → notEmpty x is y ≡ false
 empty-found true true is e = absurd (omega arith)
 empty-found true false is e = absurd (omega arith)
 empty-found false true is e = absurd (omega arith)
@@ -37,7 +37,7 @@ empty-found false false [] e = refl
 empty-found false false (i ∷ is) e = absurd (omega arith)
 
 -- and else is not
-some-found : (x y : Bool) (is : List Item) → (endsCode x y + length is ≡ 0 → ⊥) → somewhat x is y ≡ true
+some-found : (x y : Bool) (is : List Item) → (endsCode x y + length is ≡ 0 → ⊥) → notEmpty x is y ≡ true
 some-found true y is n = refl
 some-found false true is n = refl
 some-found false false [] n = absurd (n refl)
@@ -50,12 +50,12 @@ left-over (b ∷ bs) p n = refl
 
 module _ {s : List ℕ} {start caret first : ℕ} (a : start ≡ runEnd isBlank s 0) (b : OptionalEnd 94 s start caret) (c : first ≡ runEnd isBlank s caret) where
   -- the items stand behind blanks, maybe `^`, and blanks
-  pub listed-at : listed s ≡ allItems (drop first s)
+  pub listed-at : patternItems s ≡ allItems (drop first s)
   listed-at = rw (blanks-left s caret c, b .left, blanks-left s 0 a)
 
   -- so do those of any bytes
-  pub items-at : itemsIn s ≡ allItems (drop first s) .value
-  unfolding itemsIn
+  pub items-at : itemsAtFront s ≡ allItems (drop first s) .value
+  unfolding itemsAtFront
   items-at = ap (λ (r : Read (List Item)). r .value) listed-at
 
   module _ {n : Items} (is : ItemsAt s first n) {dollar last : ℕ} (d : OptionalEnd 36 s (n .end) dollar) (e : last ≡ runEnd isBlank s dollar) where
@@ -70,7 +70,7 @@ module _ {s : List ℕ} {start caret first : ℕ} (a : start ≡ runEnd isBlank 
     found = allItems (drop first s) .value
 
     -- an operand by the places of its parts
-    by-places : patternOperand s ≡ pick (somewhat caret-stands found dollar-stands) (ended (drop last s) (record { start = caret-stands; items = found; end = dollar-stands })) none
+    by-places : patternOperand s ≡ pick (notEmpty caret-stands found dollar-stands) (ended (drop last s) (record { start = caret-stands; items = found; end = dollar-stands })) none
     unfolding patternOperand
     by-places = rw (listed-at, ← is .left, ← d .left, ← blanks-left s dollar e, ← blanks-left s 0 a)
 
@@ -81,7 +81,7 @@ module _ {s : List ℕ} {start caret first : ℕ} (a : start ≡ runEnd isBlank 
     -- an operand with bytes left behind its pattern
     pub broken-behind : (last ≡ length s → ⊥) → Broken ≡ meantOf (meaning pathName s)
     unfolding meaning
-    broken-behind h = rw (by-places, alike (somewhat caret-stands found dollar-stands) (left-over (drop last s) (record { start = caret-stands; items = found; end = dollar-stands }) (λ z. h (omega (arith, length-drop last s, blanks-within s dollar e (d .high))))) refl)
+    broken-behind h = rw (by-places, alike (notEmpty caret-stands found dollar-stands) (left-over (drop last s) (record { start = caret-stands; items = found; end = dollar-stands }) (λ z. h (omega (arith, length-drop last s, blanks-within s dollar e (d .high))))) refl)
 
     -- a wholly empty one
     pub broken-empty : (caret - start) + 2 * (dollar - n .end) + n .count ≡ 0 → Broken ≡ meantOf (meaning pathName s)

@@ -9,13 +9,16 @@ use Rattle.octets.specs.Choice.{pick, orElse}
 use Rattle.octets.specs.Equal.{same}
 use Rattle.operand.specs.Decimals.{Below, numeral}
 
+-- a name and the code that it stands for
 pub record Named : Type 0 where
   pub name : List ℕ
   pub code : ℕ
 
+-- a row of a table
 abbrev pub named : List ℕ → ℕ → Named
 named n c = record { name = n; code = c }
 
+-- the names of message types
 unfoldable pub typeNames : List Named
 typeNames =
     named (79 ∷ 80 ∷ 69 ∷ 78 ∷ []) 1  -- OPEN
@@ -25,6 +28,7 @@ typeNames =
     ∷ named (82 ∷ 79 ∷ 85 ∷ 84 ∷ 69 ∷ 95 ∷ 82 ∷ 69 ∷ 70 ∷ 82 ∷ 69 ∷ 83 ∷ 72 ∷ []) 5  -- ROUTE_REFRESH
     ∷ []
 
+-- the names of attributes
 unfoldable pub attributeNames : List Named
 attributeNames =
     named (79 ∷ 82 ∷ 73 ∷ 71 ∷ 73 ∷ 78 ∷ []) 1  -- ORIGIN
@@ -42,6 +46,7 @@ attributeNames =
     ∷ named (76 ∷ 65 ∷ 82 ∷ 71 ∷ 69 ∷ 95 ∷ 67 ∷ 79 ∷ 77 ∷ 77 ∷ 85 ∷ 78 ∷ 73 ∷ 84 ∷ 89 ∷ []) 32  -- LARGE_COMMUNITY
     ∷ []
 
+-- a name of the table, or a code 0 to 255
 pub data CodeOperand (names : List Named) (bs : List ℕ) : ℕ → Type 0 where
   by-name : (i : ℕ) → i < length names → getD names i (named [] 0) .name ≡ bs → CodeOperand names bs (getD names i (named [] 0) .code)
   by-code : {n : ℕ} → Below 256 bs n → CodeOperand names bs n

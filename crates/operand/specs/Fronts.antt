@@ -18,6 +18,7 @@ pub record Read (A : Type 0) : Type 0 where
   pub value : A
   pub rest : List ℕ
 
+-- a value that was read, and what is left
 abbrev pub read : {A : Type 0} → A → List ℕ → Read A
 read a r = record { value = a; rest = r }
 
@@ -31,11 +32,12 @@ unfoldable pub after : ℕ → List ℕ → Option (List ℕ)
 after b [] = none
 after b (x ∷ xs) = pick (eqb x b) (some xs) none
 
--- whether the byte b stands at the front
+-- whether something was taken, and what is left
 abbrev pub chosen : List ℕ → Option (List ℕ) → Read Bool
 chosen l none = read false l
 chosen l (some r) = read true r
 
+-- whether the byte b stands at the front, and what is left behind it
 unfoldable pub optional : ℕ → List ℕ → Read Bool
 optional b l = chosen l (after b l)
 

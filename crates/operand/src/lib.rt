@@ -10,12 +10,13 @@ ghost use Rattle.octets.specs.Writes.{Written};
 ghost use Rattle.program.specs.Readings.{byAs};
 ghost use Rattle.program.specs.Records.{item};
 ghost use Rattle.program.specs.Layout.{fields, fieldsOf, encodeAll, relationCode, sideIs};
+ghost use Rattle.token.specs.Texts.{textLimit};
 ghost use Rattle.operand.specs.Fronts.{onward};
 ghost use Rattle.operand.specs.Decimals.{isDigit, number, numeral, valueOf, ReadAt};
 ghost use Rattle.operand.specs.Codes.{found, nameOf, codeOf, namedCode, typeNames, attributeNames};
-ghost use Rattle.operand.specs.Addresses.{part, addressRead, networkText};
+ghost use Rattle.operand.specs.Addresses.{partRead, addressRead, networkRead};
 ghost use Rattle.operand.specs.Peers.{behindAddress};
-ghost use Rattle.operand.specs.Patterns.{OptionalEnd, ItemAt, ItemsAt, itemsIn};
+ghost use Rattle.operand.specs.Patterns.{OptionalEnd, ItemAt, ItemsAt, itemsAtFront};
 ghost use Rattle.operand.specs.Times.{fractionOf, Signed, Digited};
 ghost use Rattle.operand.specs.Tests.{meaning, meantOf, meantBy, codeMeant, peerMeant, networkMeant};
 use aspath::Item;
@@ -224,7 +225,7 @@ fn code_record(kind: u32, named: u32, bytes: &[u8]) -> Meant
 // A part of an address and its dot.
 fn part(s: &[u8], at: usize) -> Number
     requires { ⌜ at ≤ length (now s) ⌝ }
-    ensures { λ r. ⌜ ReadAt part (now (s .entry)) at 256 r ⌝ }
+    ensures { λ r. ⌜ ReadAt partRead (now (s .entry)) at 256 r ⌝ }
 {
     let Number::Read { value, end } = number_at(s, at, 256) else {
         return Number::Missing;
@@ -277,7 +278,7 @@ fn relation_code(relation: Relation) -> u32
 // The record of the network at a place, on a side.
 fn network_record(bytes: &[u8], at: usize, relation: Relation, side: u32) -> Meant
     requires { ⌜ (at ≤ length (now bytes)) × (side ≤ 2) ⌝ }
-    ensures { λ r. ⌜ r ≡ networkMeant relation (sideIs side) (networkText (drop at (now (bytes .entry)))) ⌝ }
+    ensures { λ r. ⌜ r ≡ networkMeant relation (sideIs side) (networkRead (drop at (now (bytes .entry)))) ⌝ }
 {
     let Number::Read {
         value: address,
@@ -504,7 +505,7 @@ fn item_at(s: &[u8], at: usize) -> ItemRead
 
 // Counts the items from a place on, as far as they are parted by blanks.
 fn items_at(s: &[u8], at: usize) -> Items
-    requires { ⌜ (at ≤ length (now s)) × (length (now s) ≤ 4096) ⌝ }
+    requires { ⌜ (at ≤ length (now s)) × (length (now s) ≤ textLimit) ⌝ }
     ensures { λ r. ⌜ ItemsAt (now (s .entry)) at r ⌝ }
 {
     let mut count: u32 = 0;
@@ -524,7 +525,7 @@ fn items_at(s: &[u8], at: usize) -> Items
 
 // The pattern of an operand: whether `^` and `$` stand and how many items.
 fn pattern(bytes: &[u8]) -> Meant
-    requires { ⌜ length (now bytes) ≤ 4096 ⌝ }
+    requires { ⌜ length (now bytes) ≤ textLimit ⌝ }
     ensures { λ r. ⌜ r ≡ meantOf (meaning Name.Path (now (bytes .entry))) ⌝ }
 {
     let start = token::blanks_end(bytes, 0);
@@ -596,7 +597,7 @@ pub fn meaning(name: Name, bytes: &[u8]) -> Meant
 
 // Writes the records of the items of a pattern, one after another, and answers the place after them.
 pub fn put_items(bytes: &[u8], out: &mut [u8], at: usize) -> usize
-    ensures { λ r. ⌜ Written (now (out .entry)) at (encodeAll (map item (itemsIn (now (bytes .entry))))) (now (out .exit)) r ⌝ }
+    ensures { λ r. ⌜ Written (now (out .entry)) at (encodeAll (map item (itemsAtFront (now (bytes .entry))))) (now (out .exit)) r ⌝ }
 {
     let mut place = at;
     let start = token::blanks_end(bytes, 0);
