@@ -5,12 +5,12 @@ ghost use mathlib.Core.Option.{some};
 ghost use Prim.Native.Nat.{_≤_, _<_, _+_};
 ghost use lib.ListN.{length};
 ghost use Rattle.token.specs.Next.{Closed, tokenIn};
-ghost use Rattle.filter.specs.Words.{wordOf, saidBy, roleOf, name as a-name};
+ghost use Rattle.filter.specs.Words.{roleOf, name as a-name};
 ghost use Rattle.filter.specs.Grammar.{expression as an-expression, conjunction as a-conjunction, factor as a-factor};
 ghost use Rattle.filter.specs.Answering.{numberOf, answer, valueOf, saidOf, bufferOf};
 ghost use Rattle.program.specs.Layout.{fields};
 ghost use Rattle.filter.specs.Parsing.{roleSaid, operandRows, roleIn, operandKind, opensLevel, Ready, Says, TestSays, Whole};
-ghost use Rattle.operand.specs.Codes.{found};
+ghost use Rattle.operand.specs.Tables.{found};
 use network::Relation;
 use operand::Meant;
 use operand::Name;
@@ -70,7 +70,7 @@ pub fn number_of(refusal: Refusal) -> u32
 
 // What a word says if it names a test that has an operand.
 fn test_name(word: &[u8]) -> Role
-    ensures { λ r. ⌜ roleSaid r ≡ found wordOf saidBy operandRows (now (word .entry)) ⌝ }
+    ensures { λ r. ⌜ roleSaid r ≡ found operandRows (now (word .entry)) ⌝ }
 {
     if octets::same(word, b"-type") {
         return Role::Named(Name::MessageType);

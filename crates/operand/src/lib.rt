@@ -13,7 +13,8 @@ ghost use Rattle.program.specs.Layout.{fields, fieldsOf, encodeAll, relationCod
 ghost use Rattle.token.specs.Texts.{textLimit};
 ghost use Rattle.operand.specs.Fronts.{onward};
 ghost use Rattle.operand.specs.Decimals.{isDigit, number, numeral, valueOf, ReadAt};
-ghost use Rattle.operand.specs.Codes.{found, nameOf, codeOf, namedCode, typeNames, attributeNames};
+ghost use Rattle.operand.specs.Tables.{found};
+ghost use Rattle.operand.specs.Codes.{namedCode, typeNames, attributeNames};
 ghost use Rattle.operand.specs.Addresses.{partRead, addressRead, networkRead};
 ghost use Rattle.operand.specs.Peers.{behindAddress};
 ghost use Rattle.operand.specs.Patterns.{OptionalEnd, ItemAt, ItemsAt, itemsAtFront};
@@ -136,7 +137,7 @@ fn numeral(s: &[u8], at: usize, limit: u64) -> Number
 
 // The code of a message type's name, 0 where it is none.
 fn type_named(bytes: &[u8]) -> u32
-    ensures { λ r. ⌜ namedCode r ≡ found nameOf codeOf typeNames (now (bytes .entry)) ⌝ }
+    ensures { λ r. ⌜ namedCode r ≡ found typeNames (now (bytes .entry)) ⌝ }
 {
     if octets::same(bytes, b"OPEN") {
         return 1;
@@ -158,7 +159,7 @@ fn type_named(bytes: &[u8]) -> u32
 
 // The codes of the attributes' names from 14 on.
 fn later_attribute_named(bytes: &[u8]) -> u32
-    ensures { λ r. ⌜ namedCode r ≡ found nameOf codeOf (drop 8 attributeNames) (now (bytes .entry)) ⌝ }
+    ensures { λ r. ⌜ namedCode r ≡ found (drop 8 attributeNames) (now (bytes .entry)) ⌝ }
 {
     if octets::same(bytes, b"MP_REACH_NLRI") {
         return 14;
@@ -180,7 +181,7 @@ fn later_attribute_named(bytes: &[u8]) -> u32
 
 // The code of an attribute's name, 0 where it is none.
 fn attribute_named(bytes: &[u8]) -> u32
-    ensures { λ r. ⌜ namedCode r ≡ found nameOf codeOf attributeNames (now (bytes .entry)) ⌝ }
+    ensures { λ r. ⌜ namedCode r ≡ found attributeNames (now (bytes .entry)) ⌝ }
 {
     if octets::same(bytes, b"ORIGIN") {
         return 1;
