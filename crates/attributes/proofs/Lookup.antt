@@ -9,13 +9,13 @@ use lib.ListN.{length, getD, drop}
 use lib.Seq.{drop-drop}
 use lib.Dec.{eqb}
 use borrow.Author.Tests.{eq-eqb, ne-eqb}
-use Rattle.octets.specs.Choice.{pick}
+use Rattle.octets.specs.Choice.{pick, orElse}
 use Rattle.octets.specs.Numbers.{numberAt}
 use Rattle.octets.specs.Rows.{itemsIn}
 use Rattle.aspath.specs.Wire.{segmentsOf}
 use Rattle.attributes.specs.declared.Found.{Found}
 use Rattle.attributes.specs.declared.Found.the-variants.{At, Absent}
-use Rattle.attributes.specs.Attribute.{Attribute, orElse, firstOf, askOrigin, askPath, askNextHop, askAtomic}
+use Rattle.attributes.specs.Attribute.{Attribute, firstOf, askOrigin, askPath, askNextHop, askAtomic}
 use Rattle.attributes.specs.Wire.{Raw, attributeSize, rawOf, rawsOf, codes}
 use Rattle.attributes.specs.Codes.{elem}
 use Rattle.attributes.specs.Bodies.{said, attributesOf}

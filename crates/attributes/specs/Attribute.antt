@@ -3,6 +3,7 @@ use Prim.Native.Nat.{ℕ}
 use mathlib.Core.Bool.{Bool, true, false}
 use mathlib.Core.List.{List, [], _∷_}
 use mathlib.Core.Option.{Option, some, none}
+use Rattle.octets.specs.Choice.{orElse}
 use Rattle.aspath.specs.Members.{Segment}
 
 pub data Attribute : Type 0 where
@@ -23,10 +24,6 @@ codeOf atomicAggregate = 6
 codeOf (other code body) = code
 
 -- ---- what a list of attributes says
-
-abbrev pub orElse : {A : Type 0} → Option A → Option A → Option A
-orElse (some x) y = some x
-orElse none y = y
 
 -- the first that a question answers
 unfoldable pub firstOf : {A : Type 0} → (Attribute → Option A) → List Attribute → Option A

@@ -8,10 +8,11 @@ use Rattle.program.specs.Validity.{Valid}
 use Rattle.program.proofs.ReadingValid.{PossibleTest, PossibleReading, reading-valid}
 use Rattle.token.specs.Tokens.{Token}
 use Rattle.operand.proofs.MeaningsPossible.{means-possible}
-use Rattle.filter.specs.Words.{Role, joins, flag, name, Entry, vocabulary}
+use Rattle.filter.specs.Words.{Role, joins, flag, name, vocabulary}
 use Rattle.filter.specs.Grammar.{Part, Reads, flagged, tested, negated, grouped, single, anded, lone, ored}
 use Rattle.filter.specs.Answers.{Answers, compiles, compiled}
-use Rattle.filter.proofs.Sayings.{said-each}
+use Rattle.operand.specs.Tables.{Row}
+use Rattle.operand.proofs.Finding.{in-each}
 
 -- a role whose test, if it is one, is possible
 abbrev RolePossible : Role → Type 0
@@ -20,7 +21,7 @@ RolePossible (flag x) = PossibleTest x
 RolePossible (name k) = Unit {0}
 
 -- so is every word's
-vocabulary-possible : Every (λ (e : Entry). RolePossible (e .role)) vocabulary
+vocabulary-possible : Every (λ (e : Row Role). RolePossible (e .value)) vocabulary
 unfolding vocabulary
 vocabulary-possible =
     every-more tt (every-more tt (every-more tt (every-more tt (every-more tt (every-more tt (every-more tt (every-more tt
@@ -28,7 +29,7 @@ vocabulary-possible =
 
 -- every test of a derived reading is possible
 pub reads-possible : {p : Part} {ts : List Token} {r : Reading} → Reads p ts r → PossibleReading r
-reads-possible (flagged s) = said-each (λ (w : List ℕ) (r : Role). RolePossible r) vocabulary-possible s
+reads-possible (flagged s) = in-each (λ (w : List ℕ) (r : Role). RolePossible r) vocabulary-possible s
 reads-possible (tested s o m) = means-possible m
 reads-possible (negated f) = reads-possible f
 reads-possible (grouped e) = reads-possible e

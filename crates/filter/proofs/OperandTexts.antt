@@ -20,7 +20,8 @@ use Rattle.operand.specs.declared.Name.{Name}
 use Rattle.operand.specs.declared.Name.the-variants.{Network as networkName}
 use Rattle.operand.specs.Decimals.{Digits, end}
 use Rattle.operand.specs.Decimals as decimals
-use Rattle.operand.specs.Codes.{Named, typeNames, attributeNames, CodeOperand, by-code}
+use Rattle.operand.specs.Tables.{Row}
+use Rattle.operand.specs.Codes.{typeNames, attributeNames, CodeOperand, by-code}
 use Rattle.operand.specs.Addresses.{NetworkText, plain, plus, minus}
 use Rattle.operand.specs.Peers.{by-as, by-address, by-both}
 use Rattle.operand.specs.Patterns.{ItemText, a-number, not-it, any, ItemsText, empty, last}
@@ -48,7 +49,7 @@ meant {k = k} {v} m q h = record { name = k; bytes = v; means = m; quotable = sh
 -- ---- codes
 
 -- a code of a byte, whatever the names
-code-is : (names : List Named) {c : ℕ} → Code c → CodeOperand names (decimal c) c
+code-is : (names : List (Row ℕ)) {c : ℕ} → Code c → CodeOperand names (decimal c) c
 code-is names {c} w = by-code (decimal-is 256 c (w .below) (omega (arith, w .below)))
 
 -- it can be quoted
@@ -126,7 +127,7 @@ pattern-meant p {text} i q f =
       behind-blank = none;
       after-blank = none;
       items-are = i;
-      some = f;
+      not-empty = f;
     }))
     (join (mark-quotable (p .start) 94 refl) (join q (join (mark-quotable (p .end) 36 refl) nothing)))
     (omega arith)

@@ -1,39 +1,35 @@
 -- The role of a word: decided, and at most one. The words of the vocabulary differ by one computed test. Assumes nothing.
-use Prim.Native.Nat.{ℕ, _<_}
-use mathlib.Core.Path.{_≡_, refl, sym, _∙_}
-use mathlib.Core.Bool.{Bool, true, false}
+use Prim.Native.Nat.{ℕ}
+use mathlib.Core.Path.{_≡_, refl}
+use mathlib.Core.Bool.{true}
 use mathlib.Core.Option.{some, none}
-use native.Mathlib.Omega.{arith}
 use mathlib.Core.List.{List, [], _∷_}
-use lib.ListN.{length, getD}
 use Rattle.token.specs.Next.{bytesIn, tokenOf, tokenIn}
 use Rattle.token.specs.declared.Kind.{Kind}
 use Rattle.token.specs.declared.Kind.the-variants.{End, Open, Close, Bang, Word, Quoted, Unclosed}
 use Rattle.token.specs.declared.Lexeme.{Lexeme}
 use Rattle.program.specs.Readings.{and, hasLoop}
 use Rattle.filter.specs.Parsing.{operandRows, roleIn}
-use Rattle.filter.specs.Words.{Role, flag, joins, Entry, vocabulary, Says, wordOf, saidBy, roleOf}
-use Rattle.octets.proofs.Choices.{never}
+use Rattle.filter.specs.Words.{Role, flag, joins, vocabulary, Says, roleOf}
+use Rattle.octets.specs.Equal.{same}
 use Rattle.operand.proofs.Holding.{holds-some, some-once}
-use Rattle.operand.proofs.Finding.{distinct, same-true, same-itself, found-sound, found-row}
-use Rattle.operand.specs.Codes.{same, found}
+use Rattle.operand.proofs.Finding.{distinct, found-sound, found-row}
+use Rattle.operand.specs.Tables.{Row, row, here, there, found}
 
 -- the words of the vocabulary differ
-pub words-differ : distinct wordOf saidBy vocabulary ≡ true
+pub words-differ : distinct vocabulary ≡ true
 unfolding vocabulary distinct found same
 words-differ = refl
 
 -- a role that was found is said
 pub role-said : (w : List ℕ) {r : Role} → roleOf w ≡ some r → Says w r
 unfolding roleOf
-role-said w e =
-    let x = holds-some (found-sound wordOf saidBy vocabulary (record { word = []; role = joins and }) w) e in
-    record { row = x .place; within = x .within; word = x .word-is; role = x .value-is }
+role-said w e = holds-some (found-sound vocabulary w) e
 
 -- and none is missed
 pub said-role : {w : List ℕ} {r : Role} → Says w r → roleOf w ≡ some r
 unfolding roleOf
-said-role s = found-row wordOf saidBy words-differ (record { place = s .row; within = s .within; word-is = s .word; value-is = s .role })
+said-role s = found-row words-differ s
 
 -- a word says at most one thing
 pub says-once : {w : List ℕ} {r s : Role} → Says w r → Says w s → r ≡ s
@@ -45,40 +41,14 @@ loopsWord = 45 ∷ 108 ∷ 111 ∷ 111 ∷ 112 ∷ 115 ∷ []
 
 pub loops-said : Says loopsWord (flag hasLoop)
 unfolding vocabulary loopsWord
-loops-said = record { row = 2; within = omega arith; word = refl; role = refl }
-
--- ---- a word compared with one row after another
+loops-said = there (there here)
 
 -- what stands past the end of rows
-abbrev past : Entry
-past = record { word = []; role = joins and }
-
--- a word that was found the same as a row's says that row's role, where the words differ
-pub row-found : (rows : List Entry) → distinct wordOf saidBy rows ≡ true → (row : ℕ) (w : List ℕ) {b : Bool} → row < length rows → b ≡ same w (wordOf (getD rows row past)) → b ≡ true
-    → found wordOf saidBy rows w ≡ some (saidBy (getD rows row past))
-row-found rows u row w h d e = found-row wordOf saidBy u (record { place = row; within = h; word-is = sym (same-true w _ (sym d ∙ e)); value-is = refl })
-
--- rows that a word was found to differ from, up to those that are left
-pub data Missed (w : List ℕ) : List Entry → List Entry → Type 0 where
-  none-missed : {rest : List Entry} → Missed w rest rest
-  one-missed : {r : Entry} {rs rest : List Entry} {b : Bool} → b ≡ same w (wordOf r) → b ≡ false → Missed w rs rest → Missed w (r ∷ rs) rest
-
--- words that differ do so either way round
-differs : (v w : List ℕ) → same w v ≡ false → same v w ≡ false
-differs v w e = go (same v w) (same-true v w)
-  where
-    go : (b : Bool) → (b ≡ true → v ≡ w) → b ≡ false
-    go false f = refl
-    go true f = never (sym e ∙ rw (f refl) (same-itself w))
-
--- what a word says stands in the rows that are left
-pub missed-found : {w : List ℕ} {rows rest : List Entry} → Missed w rows rest → found wordOf saidBy rows w ≡ found wordOf saidBy rest w
-unfolding found
-missed-found none-missed = refl
-missed-found {w} (one-missed {r} d e m) = rw (differs (wordOf r) w (sym d ∙ e)) (missed-found m)
+abbrev pub past : Row Role
+past = row [] (joins and)
 
 -- the words of the tests that have an operand differ
-pub names-differ : distinct wordOf saidBy operandRows ≡ true
+pub names-differ : distinct operandRows ≡ true
 unfolding vocabulary distinct found same
 names-differ = refl
 

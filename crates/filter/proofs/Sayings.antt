@@ -1,4 +1,4 @@
--- What holds of each row of the vocabulary holds of each word; the words can be written. Assumes nothing.
+-- The words of the vocabulary can be written, and every role is said by one. Assumes nothing.
 use Prim.Native.Nat.{ℕ, _≤_, _<_}
 use native.Mathlib.Omega.{arith}
 use mathlib.Core.Path.{_≡_, refl}
@@ -10,19 +10,17 @@ use borrow.Author.Tests.{leb-true}
 use Rattle.octets.specs.Choice.{pick}
 use Rattle.octets.proofs.Choices.{each}
 use Rattle.octets.proofs.Encode.{Every, every-none, every-more}
-use Rattle.octets.proofs.Every.{every-place}
 use Rattle.network.specs.declared.Relation.the-variants.{Exact, Supernet, Subnet, Related}
 use Rattle.program.specs.Readings.{hasBogon, Operator, and, or}
 use Rattle.token.specs.Texts.{none, more}
 use Rattle.token.specs.Texts as texts
 use Rattle.operand.specs.declared.Name.{Name}
 use Rattle.operand.specs.declared.Name.the-variants.{MessageType as typeName, Attribute as attributeName, Path as pathName, Peer as peerName, Time as timeName, Network as networkName}
-use Rattle.filter.specs.Words.{Role, joins, flag, name, Entry, vocabulary, Says}
+use Rattle.filter.specs.Words.{Role, joins, flag, name, vocabulary, Says}
+use Rattle.operand.specs.Tables.{Row}
+use Rattle.operand.proofs.Finding.{in-each, in-place}
+use Rattle.filter.proofs.Roles.{past}
 use Rattle.filter.proofs.Spelling.{Wordly}
-
--- what holds of each row holds of each word and what it says
-pub said-each : (P : List ℕ → Role → Type 0) → Every (λ (e : Entry). P (e .word) (e .role)) vocabulary → {w : List ℕ} {r : Role} → Says w r → P w r
-said-each P v s = rw (s .word, s .role) at (every-place v (record { word = []; role = joins and }) (s .row) (s .within))
 
 -- ---- words can be written
 
@@ -45,7 +43,7 @@ writable : List ℕ → Bool
 writable w = pick (leb 1 (length w)) (pick (leb (length w) 10) (wordly w) false) false
 
 -- so it is with every row
-all-writable : Every (λ (e : Entry). writable (e .word) ≡ true) vocabulary
+all-writable : Every (λ (e : Row Role). writable (e .word) ≡ true) vocabulary
 unfolding vocabulary writable wordly
 all-writable =
     every-more refl (every-more refl (every-more refl (every-more refl (every-more refl (every-more refl (every-more refl (every-more refl
@@ -61,7 +59,7 @@ pub record Written (w : List ℕ) : Type 0 where
 pub said-written : {w : List ℕ} {r : Role} → Says w r → Written w
 unfolding writable
 said-written {w} s =
-    let x = each (leb 1 (length w)) (pick (leb (length w) 10) (wordly w) false) (said-each (λ (v : List ℕ) (r : Role). writable v ≡ true) all-writable s) in
+    let x = each (leb 1 (length w)) (pick (leb (length w) 10) (wordly w) false) (in-each (λ (v : List ℕ) (r : Role). writable v ≡ true) all-writable s) in
     let y = each (leb (length w) 10) (wordly w) (x .1) in
     record { some = leb-true 1 (length w) (x .0); few = leb-true (length w) 10 (y .0); bytes = wordly-sound w (y .1) }
 
@@ -73,8 +71,8 @@ pub record Said (r : Role) : Type 0 where
   pub says : Says word r
 
 -- a row's word says the row's role
-row-said : (i : ℕ) → i < length vocabulary → Said (getD vocabulary i (record { word = []; role = joins and }) .role)
-row-said i h = record { word = getD vocabulary i (record { word = []; role = joins and }) .word; says = record { row = i; within = h; word = refl; role = refl } }
+row-said : (i : ℕ) → i < length vocabulary → Said (getD vocabulary i past .value)
+row-said i h = record { word = getD vocabulary i past .word; says = in-place vocabulary past i h }
 
 -- `-bogon-asn`
 pub bogon-said : Said (flag hasBogon)

@@ -30,7 +30,7 @@ use Rattle.token.proofs.Kind.{the-type as kind-type}
 use Rattle.token.proofs.Nexts.{kind-token, next-closed, next-token}
 use Rattle.operand.specs.declared.Name.{Name}
 use Rattle.operand.specs.declared.Meant.the-variants.{Head, Broken}
-use Rattle.operand.specs.Patterns.{itemsIn}
+use Rattle.operand.specs.Patterns.{itemsAtFront}
 use Rattle.operand.specs.Peers.{by-as, by-address, by-both}
 use Rattle.operand.specs.Tests.{StandsFor, type, attribute, path, peer, network, time, meaning, meantOf, meantBy}
 use Rattle.operand.proofs.Meanings.{meaning-sound}
@@ -189,7 +189,7 @@ none-meant k v h e = go (meaning k v) refl (e ∙ meant-means k v h)
 -- the items of a test that an operand means are those at the operand's front, as its record says; only a path has any
 pub record Itemed (v : List ℕ) (x : Test) : Type 0 where
   pub few : itemCount x ≤ length v
-  pub listed : fieldsOf (headOf x) .kind ≡ 3 → (itemsIn v ≡ itemsOf x) × (fieldsOf (headOf x) .count ≡ itemCount x)
+  pub listed : fieldsOf (headOf x) .kind ≡ 3 → (itemsAtFront v ≡ itemsOf x) × (fieldsOf (headOf x) .count ≡ itemCount x)
   pub alone : (fieldsOf (headOf x) .kind ≡ 3 → ⊥) → itemsOf x ≡ []
 
 -- a test with no items
@@ -356,7 +356,7 @@ module _ {text : List ℕ} {t : Lexeme} {n : ℕ} (ready : Ready text t n) where
 
         -- a path, its items behind its record
         pub named-path : {u : Lexeme} {old mid new : List ℕ} {p z : ℕ} → u ≡ nextAt text (o .end) → f .kind ≡ 3 → Written old (recordSize * n) (laid f) mid p
-            → Written mid p (encodeAll (map item (itemsIn v))) new z → TestSays text t n old (Upto u (n + 1 + f .count)) new
+            → Written mid p (encodeAll (map item (itemsAtFront v))) new z → TestSays text t n old (Upto u (n + 1 + f .count)) new
         named-path d g w y =
             let i = items .listed (sym (ap (λ (x : Fields). x .kind) (head-test .head)) ∙ g) in
             listed-says (named-taken d) (i .0) (ap (λ (x : Fields). x .count) (head-test .head) ∙ i .1) (head-test .head) w y

@@ -16,7 +16,8 @@ use Rattle.token.specs.Next.{left, Closed, nextAt}
 use Rattle.token.specs.declared.Kind.{Kind}
 use Rattle.token.specs.declared.Kind.the-variants.{End, Open, Close, Bang, Word, Quoted, Unclosed}
 use Rattle.token.specs.declared.Lexeme.{Lexeme}
-use Rattle.filter.specs.Words.{joins, flag, name, Entry, vocabulary, roleOf}
+use Rattle.operand.specs.Tables.{Row}
+use Rattle.filter.specs.Words.{joins, flag, name, vocabulary, roleOf}
 use Rattle.filter.specs.Words as words
 use Rattle.filter.specs.Grammar.{Part, expression, conjunction, factor}
 use Rattle.filter.specs.Answers.{bare}
@@ -38,7 +39,7 @@ roleSaid (Named k) = some (name k)
 roleSaid Unknown = none
 
 -- the rows of the tests that have an operand
-abbrev pub operandRows : List Entry
+abbrev pub operandRows : List (Row words.Role)
 operandRows = drop 4 vocabulary
 
 -- a word or a quoted token

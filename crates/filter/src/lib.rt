@@ -5,12 +5,12 @@ ghost use mathlib.Core.Option.{some};
 ghost use Prim.Native.Nat.{_≤_, _<_, _+_};
 ghost use lib.ListN.{length};
 ghost use Rattle.token.specs.Next.{Closed, tokenIn};
-ghost use Rattle.filter.specs.Words.{wordOf, saidBy, roleOf, name as a-name};
+ghost use Rattle.filter.specs.Words.{roleOf, name as a-name};
 ghost use Rattle.filter.specs.Grammar.{expression as an-expression, conjunction as a-conjunction, factor as a-factor};
 ghost use Rattle.filter.specs.Answering.{numberOf, answer, valueOf, saidOf, bufferOf};
 ghost use Rattle.program.specs.Layout.{fields};
 ghost use Rattle.filter.specs.Parsing.{roleSaid, operandRows, roleIn, operandKind, opensLevel, Ready, PartSays, TestSays, Whole};
-ghost use Rattle.operand.specs.Codes.{found};
+ghost use Rattle.operand.specs.Tables.{found};
 use network::Relation;
 use operand::Meant;
 use operand::Name;
@@ -70,33 +70,33 @@ pub fn number_of(refusal: Refusal) -> u32
 
 // What a word says if it names a test that has an operand.
 fn test_name(word: &[u8]) -> Role
-    ensures { λ r. ⌜ roleSaid r ≡ found wordOf saidBy operandRows (now (word .entry)) ⌝ }
+    ensures { λ r. ⌜ roleSaid r ≡ found operandRows (now (word .entry)) ⌝ }
 {
-    if operand::same(word, b"-type") {
+    if octets::same(word, b"-type") {
         return Role::Named(Name::MessageType);
     }
-    if operand::same(word, b"-attr") {
+    if octets::same(word, b"-attr") {
         return Role::Named(Name::Attribute);
     }
-    if operand::same(word, b"-aspath") {
+    if octets::same(word, b"-aspath") {
         return Role::Named(Name::Path);
     }
-    if operand::same(word, b"-peer") {
+    if octets::same(word, b"-peer") {
         return Role::Named(Name::Peer);
     }
-    if operand::same(word, b"-exact") {
+    if octets::same(word, b"-exact") {
         return Role::Named(Name::Network(Relation::Exact));
     }
-    if operand::same(word, b"-supernet") {
+    if octets::same(word, b"-supernet") {
         return Role::Named(Name::Network(Relation::Supernet));
     }
-    if operand::same(word, b"-subnet") {
+    if octets::same(word, b"-subnet") {
         return Role::Named(Name::Network(Relation::Subnet));
     }
-    if operand::same(word, b"-related") {
+    if octets::same(word, b"-related") {
         return Role::Named(Name::Network(Relation::Related));
     }
-    if operand::same(word, b"-timestamp") {
+    if octets::same(word, b"-timestamp") {
         return Role::Named(Name::Time);
     }
     Role::Unknown
@@ -105,16 +105,16 @@ fn test_name(word: &[u8]) -> Role
 fn said(word: &[u8]) -> Role
     ensures { λ r. ⌜ roleSaid r ≡ roleOf (now (word .entry)) ⌝ }
 {
-    if operand::same(word, b"-and") {
+    if octets::same(word, b"-and") {
         return Role::And;
     }
-    if operand::same(word, b"-or") {
+    if octets::same(word, b"-or") {
         return Role::Or;
     }
-    if operand::same(word, b"-loops") {
+    if octets::same(word, b"-loops") {
         return Role::Loops;
     }
-    if operand::same(word, b"-bogon-asn") {
+    if octets::same(word, b"-bogon-asn") {
         return Role::Bogons;
     }
     test_name(word)

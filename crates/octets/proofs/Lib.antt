@@ -1,5 +1,6 @@
 pub mod Bytes
 pub mod Choices
+pub mod Equals
 pub mod Numbers
 pub mod Fields
 pub mod Writes

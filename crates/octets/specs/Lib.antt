@@ -1,4 +1,5 @@
 pub mod Choice
+pub mod Equal
 pub mod Numbers
 pub mod Writes
 pub mod Decimal

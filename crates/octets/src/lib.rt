@@ -1,10 +1,11 @@
-// Bytes: big-endian numbers, clipped writes and decimal digits. Every function takes any slice and any place.
+// Bytes: big-endian numbers, parts, whether two are the same, clipped writes and decimal digits. Every function takes any slice and any place.
 ghost use mathlib.Core.Path.{_≡_};
 ghost use mathlib.Core.List.{[], _∷_};
 ghost use lib.ListN.{getD, take, drop};
 ghost use Prim.Native.Nat.{_<_};
 ghost use lib.Dec.{leb};
 ghost use Rattle.octets.specs.Choice.{pick};
+ghost use Rattle.octets.specs.Equal.{same};
 ghost use Rattle.octets.specs.Numbers.{numberAt, bytesOf};
 ghost use Rattle.octets.specs.Writes.{Written};
 ghost use Rattle.octets.specs.Decimal.{decimal};
@@ -61,6 +62,23 @@ pub fn rest(s: &[u8], from: usize) -> &[u8]
         return &s[..0];
     }
     &s[from..]
+}
+
+// Whether two byte strings are the same.
+pub fn same(a: &[u8], b: &[u8]) -> bool
+    ensures { λ r. ⌜ r ≡ same (now (a .entry)) (now (b .entry)) ⌝ }
+{
+    if a.len() != b.len() {
+        return false;
+    }
+    let mut i = 0;
+    while i < a.len() {
+        if a[i] != b[i] {
+            return false;
+        }
+        i += 1;
+    }
+    true
 }
 
 // Writes a byte where the buffer reaches that far, and answers the next place: a run over an empty buffer measures.

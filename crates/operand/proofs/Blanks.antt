@@ -1,11 +1,12 @@
 -- Blanks by a test, and where runs of blanks and of digits stop. Assumes nothing.
-use Prim.Native.Nat.{ℕ, _≤_}
+use Prim.Native.Nat.{ℕ, _+_, _≤_}
 use native.Mathlib.Omega.{arith}
 use mathlib.Core.Path.{_≡_, refl, sym, _∙_}
 use mathlib.Core.Bool.{Bool, true, false}
 use mathlib.Core.List.{List, _++_, append-assoc}
 use lib.Dec.{eqb}
-use lib.ListN.{length, getD}
+use lib.ListN.{length, getD, drop}
+use lib.Seq.{drop-drop}
 use borrow.Author.Tests.{ne-eqb}
 use Rattle.octets.proofs.Choices.{never}
 use Rattle.token.specs.Texts.{Blank, space, tab, lineFeed, Every, none, more}
@@ -14,7 +15,9 @@ use Rattle.token.proofs.ByteTests.{blank-sound, blank-complete}
 use Rattle.operand.proofs.FrontReads.{Run, Stops, other, first-other, run-map}
 use Rattle.operand.proofs.Decimals.{digit-is}
 use Rattle.operand.specs.Decimals.{isDigit}
-use Rattle.token.specs.Next.{isBlank}
+use Rattle.token.specs.Next.{isBlank, run, runEnd}
+use Rattle.token.proofs.Runs.{run-long, end-within}
+use Rattle.operand.specs.Fronts.{cut}
 
 -- bytes that pass are blanks
 pub blanks-sound : {l : List ℕ} → Run isBlank l → Every Blank l
@@ -49,3 +52,20 @@ decimal-stops p f (more {bs} d x m h e) rest = rw (e, append-assoc bs) (decimal-
 -- so a decimal does not start with what is no digit
 pub decimal-first : {text : List ℕ} {n : ℕ} → Decimal text n → (rest : List ℕ) (b : ℕ) → isDigit b ≡ false → eqb 0 b ≡ false → eqb (getD (text ++ rest) 0 0) b ≡ false
 decimal-first x rest b e z = first-other b z (decimal-stops (λ (y : ℕ). eqb y b) (λ y f. apart isDigit b f e) x rest)
+
+-- ---- where the blanks from a place on end
+
+module _ (s : List ℕ) (at : ℕ) {r : ℕ} (e : r ≡ runEnd isBlank s at) where
+  -- what is left there
+  pub blanks-left : drop r s ≡ cut isBlank (drop at s) .rest
+  unfolding cut
+  blanks-left = rw e (sym (drop-drop (run isBlank (drop at s)) at s))
+
+  -- there are as many as places between
+  pub blanks-count : length (cut isBlank (drop at s) .value) + at ≡ r
+  unfolding cut
+  blanks-count = omega (arith, run-long isBlank (drop at s))
+
+  -- within the bytes
+  pub blanks-within : at ≤ length s → r ≤ length s
+  blanks-within h = rw e (end-within isBlank s at h)

@@ -7,6 +7,7 @@ use mathlib.Core.Bool.{Bool, true, false}
 use mathlib.Core.Option.{none, some}
 use mathlib.Core.List.{List, [], _∷_, _++_, append-assoc, append-nil}
 use lib.Dec.{leb, ltb}
+use lib.ListN.{length, length-append}
 use borrow.Author.Tests.{leb-true, le-leb, ltb-true, lt-ltb, le-ltb}
 use Rattle.octets.specs.Choice.{pick}
 use Rattle.octets.proofs.Choices.{each, alike}
@@ -36,6 +37,11 @@ digit-of b e =
 pub decimal-run : {bs : List ℕ} {n : ℕ} → Decimal bs n → Run isDigit bs
 decimal-run (digit d h) = more (digit-is d h) none
 decimal-run (more d p m h e) = rw e (run-append (decimal-run p) (more (digit-is d h) none))
+
+-- there is one at least
+pub decimal-some : {bs : List ℕ} {n : ℕ} → Decimal bs n → 1 ≤ length bs
+decimal-some (digit d h) = omega arith
+decimal-some (more {bs} d x m h e) = rw (e, length-append bs) (omega arith)
 
 -- ---- one step
 

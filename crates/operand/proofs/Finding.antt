@@ -1,99 +1,70 @@
--- Finding a word in a table whose words differ. Assumes nothing.
-use Prim.Native.Nat.{ℕ, zero, suc, _+_, _<_}
-use native.Mathlib.Numerals.{add-one}
+-- Finding a word in a table. Assumes nothing.
+use Prim.Native.Nat.{ℕ, zero, suc, _<_}
 use native.Mathlib.Omega.{arith}
-use mathlib.Core.Path.{_≡_, refl, ap}
+use mathlib.Core.Path.{_≡_, refl, sym, _∙_}
 use mathlib.Core.Bool.{Bool, true, false}
-use mathlib.Core.Option.{Option, none, some}
+use mathlib.Core.Option.{some}
 use mathlib.Core.List.{List, [], _∷_}
-use lib.Dec.{eqb}
-use lib.ListN.{length, getD, drop}
-use lib.Seq.{drop-cons}
-use borrow.Author.Tests.{eqb-true, eq-eqb, ne-eqb}
+use lib.ListN.{length, getD}
 use Rattle.octets.specs.Choice.{pick}
+use Rattle.octets.specs.Equal.{same}
 use Rattle.octets.proofs.Choices.{never, each}
+use Rattle.octets.proofs.Encode.{Every, every-more}
+use Rattle.octets.proofs.Equals.{same-true, same-itself}
 use Rattle.operand.proofs.Holding.{Holds, nothing, held, missing, holds-pick, holds-map}
-use Rattle.operand.specs.Codes.{same, found}
+use Rattle.operand.specs.Tables.{Row, In, here, there, found}
 
--- ---- two words are the same
-
--- words found the same are the same
-pub same-true : (x y : List ℕ) → same x y ≡ true → x ≡ y
-unfolding same
-same-true [] [] e = refl
-same-true [] (b ∷ bs) e = never e
-same-true (a ∷ as′) [] e = never e
-same-true (a ∷ as′) (b ∷ bs) e = go (same-true as′ bs) (each (eqb a b) (same as′ bs) e)
-  where
-    go : (same as′ bs ≡ true → as′ ≡ bs) → (eqb a b ≡ true) × (same as′ bs ≡ true) → a ∷ as′ ≡ b ∷ bs
-    go ih p = let x : a ≡ b = eqb-true a b (p .0) in let y : as′ ≡ bs = ih (p .1) in cc
-
--- a word is the same as itself
-pub same-itself : (x : List ℕ) → same x x ≡ true
-unfolding same
-same-itself [] = refl
-same-itself (a ∷ as′) = rw (eq-eqb a a refl) (same-itself as′)
-
--- words of other lengths differ
-pub same-length : (x y : List ℕ) → (length x ≡ length y → ⊥) → same x y ≡ false
-same-length x y n = go (same x y) (same-true x y)
-  where
-    go : (t : Bool) → (t ≡ true → x ≡ y) → t ≡ false
-    go true f = absurd (n (ap length (f refl)))
-    go false f = refl
-
--- from a place on, where the bytes there differ, and where they are the same
-module _ (x y : List ℕ) (i : ℕ) (h : i < length x) (k : i < length y) where
-  pub same-differ : (getD x i 0 ≡ getD y i 0 → ⊥) → same (drop i x) (drop i y) ≡ false
-  unfolding same
-  same-differ n = rw (drop-cons x i 0, drop-cons y i 0, ne-eqb (getD x i 0) (getD y i 0) n)
-
-  pub same-onward : getD x i 0 ≡ getD y i 0 → same (drop i x) (drop i y) ≡ same (drop (i + 1) x) (drop (i + 1) y)
-  unfolding same
-  same-onward e = rw (drop-cons x i 0, drop-cons y i 0, eq-eqb (getD x i 0) (getD y i 0) e, add-one)
-
--- ---- tables: rows with a word and a value each
-
-module _ {R A : Type 0} (word : R → List ℕ) (value : R → A) where
+module _ {A : Type 0} where
   -- no two rows have the same word
-  unfoldable pub distinct : List R → Bool
+  unfoldable pub distinct : List (Row A) → Bool
   distinct [] = true
-  distinct (r ∷ rs) = pick (missing (found word value rs (word r))) (distinct rs) false
+  distinct (r ∷ rs) = pick (missing (found rs (r .word))) (distinct rs) false
 
-  -- some row has this word and this value; d stands past the end
-  pub record Row (rows : List R) (d : R) (w : List ℕ) (a : A) : Type 0 where
-    pub place : ℕ
-    pub within : place < length rows
-    pub word-is : word (getD rows place d) ≡ w
-    pub value-is : value (getD rows place d) ≡ a
-
-  -- what is found stands in a row
-  pub found-sound : (rows : List R) (d : R) (w : List ℕ) → Holds (Row rows d w) (found word value rows w)
+  -- what is found stands in the table
+  pub found-sound : (rows : List (Row A)) (w : List ℕ) → Holds (In rows w) (found rows w)
   unfolding found
-  found-sound [] d w = nothing
-  found-sound (r ∷ rs) d w = holds-pick (same (word r) w) front (λ e. holds-map behind (found-sound rs d w))
-    where
-      front : same (word r) w ≡ true → Holds (Row (r ∷ rs) d w) (some (value r))
-      front e = held (record { place = 0; within = omega arith; word-is = same-true (word r) w e; value-is = refl })
+  found-sound [] w = nothing
+  found-sound (r ∷ rs) w = holds-pick (same w (r .word)) (λ e. held (rw (same-true w (r .word) e) here)) (λ e. holds-map (λ a x. there x) (found-sound rs w))
 
-      behind : (a : A) → Row rs d w a → Row (r ∷ rs) d w a
-      behind a h = record { place = suc (h .place); within = omega (arith, h .within); word-is = h .word-is; value-is = h .value-is }
-
-  -- and where the words differ, each row is found by its word
-  pub found-complete : (rows : List R) (d : R) (i : ℕ) → distinct rows ≡ true → i < length rows → found word value rows (word (getD rows i d)) ≡ some (value (getD rows i d))
+  -- and where the words differ, what stands there is found
+  pub found-row : {rows : List (Row A)} {w : List ℕ} {a : A} → distinct rows ≡ true → In rows w a → found rows w ≡ some a
   unfolding found distinct
-  found-complete [] d i t l = absurd (omega arith)
-  found-complete (r ∷ rs) d zero t l = rw (same-itself (word r))
-  found-complete (r ∷ rs) d (suc i) t l =
-      go (each (missing (found word value rs (word r))) (distinct rs) t) (λ u. found-complete rs d i u (omega arith)) (same (word r) (word (getD rs i d))) (same-true (word r) (word (getD rs i d)))
+  found-row t (here {r}) = rw (same-itself (r .word))
+  found-row t (there {r} {rows} {w} {a} x) =
+      go (each (missing (found rows (r .word))) (distinct rows) t) (λ u. found-row u x) (same w (r .word)) (same-true w (r .word))
     where
-      go : (missing (found word value rs (word r)) ≡ true) × (distinct rs ≡ true) → (distinct rs ≡ true → found word value rs (word (getD rs i d)) ≡ some (value (getD rs i d)))
-          → (b : Bool) → (b ≡ true → word r ≡ word (getD rs i d)) → pick b (some (value r)) (found word value rs (word (getD rs i d))) ≡ some (value (getD rs i d))
+      go : (missing (found rows (r .word)) ≡ true) × (distinct rows ≡ true) → (distinct rows ≡ true → found rows w ≡ some a)
+          → (b : Bool) → (b ≡ true → w ≡ r .word) → pick b (some (r .value)) (found rows w) ≡ some a
       go m ih false f = ih (m .1)
       go m ih true f =
-          let e : found word value rs (word r) ≡ some (value (getD rs i d)) = rw (f refl) (ih (m .1)) in
+          let e : found rows (r .word) ≡ some a = rw (← f refl) (ih (m .1)) in
           never (rw e at (m .0))
 
-  -- so a row's value is what is found under its word
-  pub found-row : {rows : List R} {d : R} {w : List ℕ} {a : A} → distinct rows ≡ true → Row rows d w a → found word value rows w ≡ some a
-  found-row {rows} {d} {w} {a} t x = rw (x .value-is, x .word-is) at (found-complete rows d (x .place) t (x .within))
+  -- what holds of each row holds of each word and its value
+  pub in-each : (P : List ℕ → A → Type 0) {rows : List (Row A)} → Every (λ (r : Row A). P (r .word) (r .value)) rows → {w : List ℕ} {a : A} → In rows w a → P w a
+  in-each P (every-more p ps) here = p
+  in-each P (every-more p ps) (there x) = in-each P ps x
+
+  -- the row at a place stands in the table; d stands past the end
+  pub in-place : (rows : List (Row A)) (d : Row A) (i : ℕ) → i < length rows → In rows (getD rows i d .word) (getD rows i d .value)
+  in-place [] d i h = absurd (omega arith)
+  in-place (r ∷ rs) d zero h = here
+  in-place (r ∷ rs) d (suc i) h = there (in-place rs d i (omega arith))
+
+  -- ---- a word compared with one row after another
+
+  -- a word that was found the same as a row's, where the words differ
+  pub row-found : (rows : List (Row A)) (d : Row A) → distinct rows ≡ true → (i : ℕ) (w : List ℕ) {b : Bool} → i < length rows → b ≡ same w (getD rows i d .word) → b ≡ true
+      → found rows w ≡ some (getD rows i d .value)
+  row-found rows d u i w h p e = rw (same-true w (getD rows i d .word) (sym p ∙ e)) (found-row u (in-place rows d i h))
+
+  -- rows that a word was found to differ from, up to those that are left
+  pub data Missed (w : List ℕ) : List (Row A) → List (Row A) → Type 0 where
+    none-missed : {rest : List (Row A)} → Missed w rest rest
+    one-missed : {r : Row A} {rs rest : List (Row A)} {b : Bool} → b ≡ same w (r .word) → b ≡ false → Missed w rs rest → Missed w (r ∷ rs) rest
+
+  -- a word is found in the rows that are left
+  pub missed-found : {w : List ℕ} {rows rest : List (Row A)} → Missed w rows rest → found rows w ≡ found rest w
+  unfolding found
+  missed-found none-missed = refl
+  missed-found (one-missed d e m) = rw (sym d ∙ e) (missed-found m)

@@ -1,15 +1,18 @@
 -- Reading a text from the front: what is read and what is left. Assumes nothing.
-use Prim.Native.Nat.{ℕ}
+use Prim.Native.Nat.{ℕ, suc}
 use mathlib.Core.Path.{_≡_, refl, sym, ap, _∙_}
 use mathlib.Core.Bool.{Bool, true, false}
-use mathlib.Core.Option.{Option, none, some}
+use mathlib.Core.Option.{Option, some}
 use mathlib.Core.List.{List, [], _∷_, _++_, append-nil}
 use lib.Dec.{eqb}
-use lib.ListN.{getD, drop}
+use lib.ListN.{length, getD, drop, take-append-drop}
+use lib.Seq.{take-at, drop-at}
 use borrow.Author.Tests.{eqb-true, eq-eqb}
 use Rattle.octets.specs.Choice.{pick}
 use Rattle.octets.proofs.Choices.{never}
 use Rattle.token.specs.Texts.{Every, none, more}
+use Rattle.token.specs.Next.{run}
+use Rattle.token.proofs.Runs.{run-every}
 use Rattle.operand.proofs.Holding.{Holds, nothing, held, holds-pick}
 use Rattle.operand.specs.Fronts.{Read, read, ended, after, chosen, optional, cut}
 
@@ -75,13 +78,7 @@ pub data Stops (p : ℕ → Bool) : List ℕ → Type 0 where
   end : Stops p []
   other : {b : ℕ} {bs : List ℕ} → p b ≡ false → Stops p (b ∷ bs)
 
--- another byte at the front
-pub after-none : (b : ℕ) {l : List ℕ} → Stops (λ (x : ℕ). eqb x b) l → after b l ≡ none
-unfolding after
-after-none b end = refl
-after-none b (other e) = rw e
-
--- so is the first byte, where 0 stands past the end
+-- another byte is at the front, where 0 stands past the end
 pub first-other : (b : ℕ) {l : List ℕ} → eqb 0 b ≡ false → Stops (λ (x : ℕ). eqb x b) l → eqb (getD l 0 0) b ≡ false
 first-other b z end = z
 first-other b z (other e) = e
@@ -109,37 +106,41 @@ module _ (p : ℕ → Bool) where
   -- a run and what is left are the whole
   pub cut-joined : (l : List ℕ) → l ≡ cut p l .value ++ cut p l .rest
   unfolding cut
-  cut-joined [] = refl
-  cut-joined (b ∷ bs) = go (p b) (cut-joined bs)
-    where
-      go : (t : Bool) → bs ≡ cut p bs .value ++ cut p bs .rest → b ∷ bs ≡ pick t (read (b ∷ cut p bs .value) (cut p bs .rest)) (read [] (b ∷ bs)) .value ++ pick t (read (b ∷ cut p bs .value) (cut p bs .rest)) (read [] (b ∷ bs)) .rest
-      go true e = ap (λ (l : List ℕ). b ∷ l) e
-      go false e = refl
+  cut-joined l = sym (take-append-drop (run p l) l)
 
   -- the run passes
   pub cut-run : (l : List ℕ) → Run p (cut p l .value)
   unfolding cut
-  cut-run [] = none
-  cut-run (b ∷ bs) = go (p b) refl (cut-run bs)
-    where
-      go : (t : Bool) → p b ≡ t → Run p (cut p bs .value) → Run p (pick t (read (b ∷ cut p bs .value) (cut p bs .rest)) (read [] (b ∷ bs)) .value)
-      go true e h = more e h
-      go false e h = none
+  cut-run l = run-every p (λ b e. e) l
 
-  -- bytes that pass before one that does not are the run
+  -- no byte is taken where a run stops
+  run-stop : {l : List ℕ} → Stops p l → run p l ≡ 0
+  unfolding run
+  run-stop end = refl
+  run-stop (other e) = rw e
+
+  -- bytes that pass are taken before one that does not
+  run-exact : {xs ys : List ℕ} → Run p xs → Stops p ys → run p (xs ++ ys) ≡ length xs
+  unfolding run
+  run-exact none s = run-stop s
+  run-exact (more e es) s = rw (e, run-exact es s)
+
+  -- and are the run
   pub cut-exact : {xs ys : List ℕ} → Run p xs → Stops p ys → cut p (xs ++ ys) ≡ read xs ys
   unfolding cut
-  cut-exact none end = refl
-  cut-exact none (other e) = rw e
-  cut-exact (more e es) s = rw (e, cut-exact es s)
+  cut-exact {xs} {ys} r s = rw (run-exact r s, take-at xs ys (length xs) refl, drop-at xs ys (length xs) refl)
 
-  -- what a run was cut from starts no other
+  -- a run stops at what is left
+  cut-stops : (l : List ℕ) → Stops p (drop (run p l) l)
+  unfolding run
+  cut-stops [] = end
+  cut-stops (b ∷ bs) = go (p b) refl (cut-stops bs)
+    where
+      go : (t : Bool) → p b ≡ t → Stops p (drop (run p bs) bs) → Stops p (drop (pick t (suc (run p bs)) 0) (b ∷ bs))
+      go true e h = h
+      go false e h = other e
+
+  -- so no other starts there
   pub cut-again : (l : List ℕ) → cut p (cut p l .rest) .rest ≡ cut p l .rest
   unfolding cut
-  cut-again [] = refl
-  cut-again (b ∷ bs) = go (p b) refl (cut-again bs)
-    where
-      go : (t : Bool) → p b ≡ t → cut p (cut p bs .rest) .rest ≡ cut p bs .rest
-          → cut p (pick t (read (b ∷ cut p bs .value) (cut p bs .rest)) (read [] (b ∷ bs)) .rest) .rest ≡ pick t (read (b ∷ cut p bs .value) (cut p bs .rest)) (read [] (b ∷ bs)) .rest
-      go true e h = h
-      go false e h = rw e
+  cut-again l = rw (run-stop (cut-stops l))

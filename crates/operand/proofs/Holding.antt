@@ -4,8 +4,8 @@ use native.Mathlib.Omega.{arith}
 use mathlib.Core.Path.{_≡_, refl}
 use mathlib.Core.Bool.{Bool, true, false}
 use mathlib.Core.Option.{Option, none, some}
-use Rattle.octets.specs.Choice.{pick}
-use Rattle.operand.specs.Fronts.{onward, orElse}
+use Rattle.octets.specs.Choice.{pick, orElse}
+use Rattle.operand.specs.Fronts.{onward}
 
 -- an answer, if there is one, is so
 pub data Holds {A : Type 0} (P : A → Type 0) : Option A → Type 0 where

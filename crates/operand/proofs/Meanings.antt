@@ -1,24 +1,19 @@
 -- What a test's operand means: decided, at most one test, and a possible one. Assumes nothing.
 use Prim.Native.Nat.{ℕ}
 use mathlib.Core.Path.{_≡_}
-use mathlib.Core.Option.{Option, some}
+use mathlib.Core.Option.{some}
 use mathlib.Core.List.{List}
-use Rattle.program.specs.Readings.{Test, typeIs, hasAttribute, pathMatches, peerIs, networkIs, timeIs}
+use Rattle.program.specs.Readings.{Test}
 use Rattle.operand.proofs.Holding.{Holds, held, holds-onward, holds-some, some-once}
 use Rattle.operand.proofs.OperandCodes.{coded-sound, coded-complete, types-tell, attributes-tell}
 use Rattle.operand.proofs.OperandNetworks.{networkOperand-sound, networkOperand-complete}
 use Rattle.operand.proofs.OperandPatterns.{pattern-sound, pattern-complete}
 use Rattle.operand.proofs.OperandPeers.{peer-sound, peer-complete}
 use Rattle.operand.proofs.OperandTimes.{time-sound, time-complete}
-use Rattle.operand.specs.Codes.{typeNames, attributeNames, coded}
+use Rattle.operand.specs.Codes.{typeNames, attributeNames}
 use Rattle.operand.specs.declared.Name.{Name}
 use Rattle.operand.specs.declared.Name.the-variants.{MessageType as typeName, Attribute as attributeName, Path as pathName, Peer as peerName, Time as timeName, Network as networkName}
 use Rattle.operand.specs.Tests.{StandsFor, type, attribute, path, peer, network, time, meaning}
-use Rattle.operand.specs.Fronts.{onward}
-use Rattle.operand.specs.Addresses.{networkOperand}
-use Rattle.operand.specs.Patterns.{patternOperand}
-use Rattle.operand.specs.Peers.{peerOperand}
-use Rattle.operand.specs.Times.{timeOperand}
 
 -- what is found is meant
 pub meaning-holds : (k : Name) (v : List ℕ) → Holds (StandsFor k v) (meaning k v)

@@ -1,12 +1,12 @@
 -- What is meant is possible: codes, addresses, items and times are within their bounds. Assumes nothing.
-use Prim.Native.Nat.{ℕ, zero, suc, _+_, _*_, _-_, _^_, _≤_, _<_}
+use Prim.Native.Nat.{ℕ, suc, _+_, _*_, _-_, _^_, _≤_, _<_}
 use native.Mathlib.Nat.{mul-le-mul-right, mul-assoc, pow-succ'}
 use native.Mathlib.Omega.{arith}
 use mathlib.Core.Path.{_≡_, refl, sym, ap}
 use mathlib.Core.Bool.{Bool, true, false}
 use mathlib.Core.List.{List, [], _∷_}
 use lib.Dec.{ltb}
-use lib.ListN.{length, getD}
+use lib.ListN.{length}
 use borrow.Author.Tests.{ltb-true}
 use Rattle.octets.specs.Choice.{pick}
 use Rattle.octets.proofs.Choices.{each}
@@ -20,7 +20,8 @@ use Rattle.program.specs.Readings.{Peer, Side, Comparison, Test}
 use Rattle.program.specs.Records.{Code, Bits32, ItemPossible, PeerPossible, NetworkPossible, TimePossible}
 use Rattle.program.proofs.ReadingValid.{PatternPossible, PossibleTest}
 use Rattle.operand.specs.Decimals.{Digits, end, more}
-use Rattle.operand.specs.Codes.{Named, typeNames, attributeNames, CodeOperand, by-name, by-code}
+use Rattle.operand.specs.Tables.{Row, In, here, there}
+use Rattle.operand.specs.Codes.{typeNames, attributeNames, CodeOperand, by-name, by-code}
 use Rattle.operand.specs.Addresses.{Address, NetworkText, NetworkOperand, plain, plus, minus}
 use Rattle.operand.specs.Peers.{PeerOperand, by-as, by-address, by-both}
 use Rattle.operand.specs.Patterns.{empty, ItemText, a-number, not-it, any, ItemsText, last, more, PatternOperand}
@@ -31,20 +32,19 @@ use Rattle.operand.specs.Tests.{StandsFor, type, attribute, path, peer, 
 -- ---- codes
 
 -- the codes of a table are bytes
-unfoldable pub smallCodes : List Named → Bool
+unfoldable pub smallCodes : List (Row ℕ) → Bool
 smallCodes [] = true
-smallCodes (n ∷ ns) = pick (ltb (n .code) 256) (smallCodes ns) false
+smallCodes (n ∷ ns) = pick (ltb (n .value) 256) (smallCodes ns) false
 
 -- so is the code of each row
-small-at : (names : List Named) (i : ℕ) → smallCodes names ≡ true → getD names i (record { name = []; code = 0 }) .code < 256
+small-in : {names : List (Row ℕ)} {w : List ℕ} {c : ℕ} → smallCodes names ≡ true → In names w c → c < 256
 unfolding smallCodes
-small-at [] i t = omega arith
-small-at (n ∷ ns) zero t = ltb-true (n .code) 256 (each (ltb (n .code) 256) (smallCodes ns) t .0)
-small-at (n ∷ ns) (suc i) t = small-at ns i (each (ltb (n .code) 256) (smallCodes ns) t .1)
+small-in t (here {r} {rows}) = ltb-true (r .value) 256 (each (ltb (r .value) 256) (smallCodes rows) t .0)
+small-in t (there {r} {rows} x) = small-in (each (ltb (r .value) 256) (smallCodes rows) t .1) x
 
 -- a code is a byte
-code-possible : {names : List Named} {l : List ℕ} {c : ℕ} → smallCodes names ≡ true → CodeOperand names l c → Code c
-code-possible {names} t (by-name i h e) = record { below = small-at names i t }
+code-possible : {names : List (Row ℕ)} {l : List ℕ} {c : ℕ} → smallCodes names ≡ true → CodeOperand names l c → Code c
+code-possible t (by-name x) = record { below = small-in t x }
 code-possible t (by-code b) = record { below = b .below }
 
 -- the codes of message types are
@@ -100,7 +100,7 @@ items-possible (more t g h x e) = every-more (item-possible t) (items-possible x
 
 -- a pattern has an item, `^` or `$`
 pattern-possible : {l : List ℕ} {p : Pattern} → PatternOperand l p → PatternPossible p
-pattern-possible {p = p} x = record { each = items-possible (x .items-are); some = λ s e i. x .some s e (no-items (p .items) i) }
+pattern-possible {p = p} x = record { each = items-possible (x .items-are); some = λ s e i. x .not-empty s e (no-items (p .items) i) }
   where
     no-items : (is : List Item) → length is ≡ 0 → is ≡ []
     no-items [] h = refl

@@ -2,21 +2,22 @@
 use Prim.Native.Nat.{ℕ, _+_, _-_, _*_, _≤_, _<_}
 use native.Mathlib.Omega.{arith}
 use native.Mathlib.Numerals.{add-one}
-use mathlib.Core.Path.{_≡_, refl, sym, _∙_}
+use mathlib.Core.Path.{_≡_, refl, sym, ap, _∙_}
 use mathlib.Core.Bool.{Bool, true, false}
 use mathlib.Core.Option.{Option, none, some}
 use mathlib.Core.List.{List}
 use lib.Dec.{leb}
-use lib.ListN.{length, getD, drop}
+use lib.ListN.{length, getD, drop, length-append, length-drop}
 use lib.Seq.{drop-cons}
 use borrow.Author.Tests.{leb-false}
 use Rattle.octets.specs.Choice.{pick}
 use Rattle.operand.specs.Fronts.{Read, read}
-use Rattle.operand.specs.Decimals.{isDigit, numberOn, number, leftAt, valueOf, ReadAt, Numbered}
+use Rattle.operand.specs.Decimals.{isDigit, numberOn, number, leftAt, valueOf, ReadAt}
 use Rattle.operand.specs.declared.Number.{Number}
 use Rattle.operand.specs.declared.Number.the-variants.{Read as readTo, Missing as missing}
+use Rattle.operand.proofs.Holding.{holds-some}
 use Rattle.operand.proofs.FrontReads.{Stops}
-use Rattle.operand.proofs.Decimals.{number-stop, digit-zero, digit-over, digit-taken}
+use Rattle.operand.proofs.Decimals.{decimal-some, number-sound, number-stop, digit-zero, digit-over, digit-taken}
 
 -- two answers that can't be the same
 pub not-read : {P : Type 0} {v e : ℕ} → missing ≡ readTo v e → P
@@ -47,23 +48,20 @@ module _ (reader : List ℕ → Option (Read ℕ)) (s : List ℕ) (at limit : �
   pub read-some : (v w : ℕ) → reader (drop at s) ≡ some (read v (drop w s)) → w ≤ length s → v < limit → ReadAt reader s at limit (readTo v w)
   read-some v w e h k = record { said = sym e; ends = λ u x q. let y : v ≡ u = cc in let z : w ≡ x = cc in (omega arith, omega arith) }
 
-module _ (s : List ℕ) (at limit : ℕ) where
-  -- no number is read
-  pub numbered-none : number limit (drop at s) ≡ none → Numbered s at limit missing
-  numbered-none e = record { said = sym e; ends = λ v w q. not-read q }
+-- where no digit follows
+pub number-ends : (s : List ℕ) (at limit w n : ℕ) {r : Number} → numberOn limit (leb w at) n (drop w s) ≡ number limit (drop at s) → Stops isDigit (drop w s) → w ≤ length s → (at < w → n < limit)
+    → r ≡ pick (leb w at) missing (readTo n w) → ReadAt (number limit) s at limit r
+number-ends s at limit w n {r} i st h k e = go (leb w at) (leb-false w at) e (sym (number-stop limit (leb w at) n st) ∙ i)
+  where
+    go : (b : Bool) → (b ≡ false → at < w) → r ≡ pick b missing (readTo n w) → pick b none (some (read n (drop w s))) ≡ number limit (drop at s) → ReadAt (number limit) s at limit r
+    go true f e j = rw e (read-none (number limit) s at limit (sym j))
+    go false f e j = rw e (read-some (number limit) s at limit n w (sym j) h (k (f refl)))
 
-  -- where no digit follows
-  pub numbered-stop : (w n : ℕ) {r : Number} → numberOn limit (leb w at) n (drop w s) ≡ number limit (drop at s) → Stops isDigit (drop w s) → w ≤ length s → (at < w → n < limit)
-      → r ≡ pick (leb w at) missing (readTo n w) → Numbered s at limit r
-  numbered-stop w n {r} i st h k e = go (leb w at) (leb-false w at) e (sym (number-stop limit (leb w at) n st) ∙ i)
-    where
-      go : (b : Bool) → (b ≡ false → at < w) → r ≡ pick b missing (readTo n w) → pick b none (some (read n (drop w s))) ≡ number limit (drop at s) → Numbered s at limit r
-      go true f e j = rw e (numbered-none (sym j))
-      go false f e j =
-          rw e (record {
-            said = j;
-            ends = λ v x q. let y : n ≡ v = cc in let z : w ≡ x = cc in (omega (arith, f refl), omega arith, omega (arith, k (f refl)));
-          })
+-- a number that was read ends behind its place
+pub number-moves : {s : List ℕ} {at limit : ℕ} {r : Number} → ReadAt (number limit) s at limit r → {v e : ℕ} → r ≡ readTo v e → at < e
+number-moves {s} {at} {limit} x {v} {e} z =
+    let g = holds-some (number-sound limit (drop at s)) (said-some s (x .said) z) in
+    omega (arith, decimal-some (g .says .decimal), ap length (g .joined), length-append (g .text) (drop e s), length-drop at s, length-drop e s, x .ends v e z .0)
 
 -- a digit at a place
 module _ (s : List ℕ) (limit : ℕ) (fresh : Bool) (n w : ℕ) (h : w < length s) (e : isDigit (getD s w 0) ≡ true) where

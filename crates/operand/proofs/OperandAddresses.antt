@@ -1,15 +1,15 @@
 -- Addresses, networks and peers. Assumes nothing.
-use Prim.Native.Nat.{ℕ, _+_, _*_}
+use Prim.Native.Nat.{ℕ, _+_}
 use mathlib.Core.Path.{_≡_, refl, _∙_}
-use mathlib.Core.Option.{Option, some}
-use mathlib.Core.List.{List, [], _∷_, _++_, append-assoc, append-nil}
+use mathlib.Core.Option.{some}
+use mathlib.Core.List.{List, _∷_, _++_, append-assoc}
 use Rattle.operand.specs.Decimals.{Below}
-use Rattle.operand.proofs.Holding.{Holds, held, holds-onward, some-once}
-use Rattle.operand.proofs.FrontReads.{Got, ended-sound, Stops, end, other, after-sound, after-complete}
+use Rattle.operand.proofs.Holding.{Holds, held, holds-onward}
+use Rattle.operand.proofs.FrontReads.{Got, Stops, other, after-sound, after-complete}
 use Rattle.operand.proofs.Decimals.{number-sound, number-complete}
-use Rattle.operand.specs.Addresses.{Address, part, addressRead, addressOf}
-use Rattle.operand.specs.Fronts.{onward, Read, read, ended, after}
-use Rattle.operand.specs.Decimals.{isDigit, number}
+use Rattle.operand.specs.Addresses.{Address, partRead, addressRead}
+use Rattle.operand.specs.Fronts.{Read, read}
+use Rattle.operand.specs.Decimals.{isDigit}
 
 -- ---- a part of an address and its dot
 
@@ -19,13 +19,13 @@ record Parted (l : List ℕ) (r : Read ℕ) : Type 0 where
   says : Below 256 text (r .value)
 
 -- a part that was read stands at the front
-part-sound : (l : List ℕ) → Holds (Parted l) (part l)
-unfolding part
+part-sound : (l : List ℕ) → Holds (Parted l) (partRead l)
+unfolding partRead
 part-sound l = holds-onward (number-sound 256 l) (λ n g. holds-onward (after-sound 46 (n .rest)) (λ r e. held (record { text = g .text; joined = rw (← e) (g .joined); says = g .says })))
 
 -- and every part is read
-part-complete : {text : List ℕ} {n : ℕ} → Below 256 text n → (rest : List ℕ) → part (text ++ (46 ∷ rest)) ≡ some (read n rest)
-unfolding part isDigit
+part-complete : {text : List ℕ} {n : ℕ} → Below 256 text n → (rest : List ℕ) → partRead (text ++ (46 ∷ rest)) ≡ some (read n rest)
+unfolding partRead isDigit
 part-complete {text} {n} x rest = rw (number-complete {rest = 46 ∷ rest} x (other refl), after-complete 46 rest)
 
 -- ---- addresses
@@ -62,19 +62,3 @@ unfolding addressRead
 address-complete {text} {rest} x s =
     let e : text ++ rest ≡ x .aText ++ (46 ∷ (x .bText ++ (46 ∷ (x .cText ++ (46 ∷ (x .dText ++ rest)))))) = rw (x .joined) (simp append-assoc) in
     rw (e, x .value, part-complete (x .a-is), part-complete (x .b-is), part-complete (x .c-is), number-complete (x .d-is) s)
-
--- an address that was found is written so
-pub addressOf-sound : (l : List ℕ) → Holds (Address l) (addressOf l)
-unfolding addressOf
-addressOf-sound l = holds-onward (address-sound l) (λ a g. ended-sound g)
-
--- and every address is found
-pub addressOf-complete : {l : List ℕ} {n : ℕ} → Address l n → addressOf l ≡ some n
-unfolding addressOf
-addressOf-complete {l} {n} x =
-    let e : addressRead l ≡ some (read n []) = rw (append-nil l) at (address-complete x end) in
-    rw e
-
--- bytes write at most one address
-pub address-once : {l : List ℕ} {m n : ℕ} → Address l m → Address l n → m ≡ n
-address-once x y = some-once (addressOf-complete x) (addressOf-complete y)

@@ -8,10 +8,9 @@ use mathlib.Core.List.{List, [], _∷_, _++_, append-assoc}
 use lib.ListN.{length, length-append}
 use Rattle.aspath.specs.declared.Item.{Item}
 use Rattle.token.specs.Texts.{Blank, Every, none, more}
-use Rattle.operand.specs.Decimals.{Decimal, digit, more}
 use Rattle.operand.proofs.Holding.{Holds, nothing, held, holds-onward, holds-else, holds-map}
 use Rattle.operand.proofs.FrontReads.{Got, Run, Stops, end, other, after-sound, run-append, cut-joined, cut-run, cut-exact}
-use Rattle.operand.proofs.Decimals.{number-sound, number-complete, number-none}
+use Rattle.operand.proofs.Decimals.{decimal-some, number-sound, number-complete, number-none}
 use Rattle.operand.proofs.Blanks.{blanks-sound, blanks-complete, digit-no-blank, blank-stops, decimal-stops}
 use Rattle.operand.specs.Patterns.{ItemText, a-number, not-it, any, ItemsText, empty, last, more, itemRead, followed, firstItem, itemsRead, allItems}
 use Rattle.operand.specs.Fronts.{Read, read, after, cut}
@@ -49,11 +48,7 @@ items-front (more {bs} t g h x e) rest = rw (e, append-assoc bs) (item-front t _
 
 -- an item has a byte or more
 item-some : {text : List ℕ} {i : Item} → ItemText text i → 1 ≤ length text
-item-some (a-number b) = go (b .decimal)
-  where
-    go : {l : List ℕ} {n : ℕ} → Decimal l n → 1 ≤ length l
-    go (digit d h) = omega arith
-    go (more {bs} d x m h e) = rw (e, length-append bs) (omega arith)
+item-some (a-number b) = decimal-some (b .decimal)
 item-some (not-it b) = omega arith
 item-some any = omega arith
 
@@ -207,7 +202,3 @@ pub items-complete : {before text behind rest : List ℕ} {is : List Item} → E
 items-complete {before} {text} {behind} {rest} {is} b x k w =
     let m = cut isBlank (before ++ (text ++ (behind ++ rest))) .rest in
     items-fuel (length m) (length m + length is) m (omega arith) (omega arith) ∙ items-bounded (length m + length is) b x k w (omega arith)
-
--- bytes write at most one list of items
-pub items-once : {l : List ℕ} {is js : List Item} → ItemsText l is → ItemsText l js → is ≡ js
-items-once x y = ap (λ (t : Read (List Item)). t .value) (sym (items-complete none x none at-end) ∙ items-complete none y none at-end)

@@ -15,13 +15,13 @@ use Rattle.operand.proofs.FrontReads.{end, other, optional-sound, optio
 use Rattle.operand.proofs.Blanks.{blanks-sound, blanks-complete}
 use Rattle.operand.proofs.Decimals.{number-none}
 use Rattle.operand.proofs.OperandItems.{Listed, at-end, dollar, items-sound, items-complete}
-use Rattle.operand.specs.Patterns.{ItemsText, PatternOperand, itemRead, itemsRead, allItems, somewhat, closed, opened, listed, patternOperand, itemsIn}
+use Rattle.operand.specs.Patterns.{ItemsText, PatternOperand, itemRead, itemsRead, allItems, notEmpty, patternClosed, patternOpened, patternItems, patternOperand, itemsAtFront}
 use Rattle.operand.specs.Fronts.{Read, read, ended, after, optional, cut}
 use Rattle.token.specs.Next.{isBlank}
 use Rattle.operand.specs.Decimals.{isDigit}
 
 -- a pattern that was found is not wholly empty
-some-of : (s e : Bool) (is : List Item) → somewhat s is e ≡ true → s ≡ false → e ≡ false → is ≡ [] → ⊥
+some-of : (s e : Bool) (is : List Item) → notEmpty s is e ≡ true → s ≡ false → e ≡ false → is ≡ [] → ⊥
 some-of true e is h p q r = never (sym p)
 some-of false true is h p q r = never (sym q)
 some-of false false [] h p q r = never h
@@ -35,29 +35,29 @@ chain a b c d e f g s t u v w x y = rw (s, t, u, v, w, x, y, append-nil g)
 -- a pattern that was read is meant
 pub pattern-sound : (l : List ℕ) → Holds (PatternOperand l) (patternOperand l)
 unfolding patternOperand
-pattern-sound l = holds-pick _ (λ t. go (listed l) (items-sound _ m) t (cut isBlank (optional 36 (listed l .rest) .rest) .rest) refl) (λ t. nothing)
+pattern-sound l = holds-pick _ (λ t. go (patternItems l) (items-sound _ m) t (cut isBlank (optional 36 (patternItems l .rest) .rest) .rest) refl) (λ t. nothing)
   where
     m : List ℕ
-    m = cut isBlank (opened l .rest) .rest
+    m = cut isBlank (patternOpened l .rest) .rest
 
-    go : (is : Read (List Item)) → Listed m is → somewhat (opened l .value) (is .value) (optional 36 (is .rest) .value) ≡ true
+    go : (is : Read (List Item)) → Listed m is → notEmpty (patternOpened l .value) (is .value) (optional 36 (is .rest) .value) ≡ true
         → (left : List ℕ) → cut isBlank (optional 36 (is .rest) .rest) .rest ≡ left
-        → Holds (PatternOperand l) (ended left (record { start = opened l .value; items = is .value; end = optional 36 (is .rest) .value }))
+        → Holds (PatternOperand l) (ended left (record { start = patternOpened l .value; items = is .value; end = optional 36 (is .rest) .value }))
     go is x t (b ∷ bs) e = nothing
     go is x t [] e = held (record {
       before = cut isBlank l .value;
-      between = cut isBlank (opened l .rest) .value;
+      between = cut isBlank (patternOpened l .rest) .value;
       text = x .text;
       behind = x .behind;
       after = cut isBlank (optional 36 (is .rest) .rest) .value;
-      joined = chain (cut isBlank l .value) (pick (opened l .value) (94 ∷ []) []) (cut isBlank (opened l .rest) .value) (x .text) (x .behind) (pick (optional 36 (is .rest) .value) (36 ∷ []) []) (cut isBlank (optional 36 (is .rest) .rest) .value)
-          (cut-joined isBlank l) (optional-sound 94 (cut isBlank l .rest)) (cut-joined isBlank (opened l .rest)) (x .joined) (optional-sound 36 (is .rest)) (cut-joined isBlank (optional 36 (is .rest) .rest)) e;
+      joined = chain (cut isBlank l .value) (pick (patternOpened l .value) (94 ∷ []) []) (cut isBlank (patternOpened l .rest) .value) (x .text) (x .behind) (pick (optional 36 (is .rest) .value) (36 ∷ []) []) (cut isBlank (optional 36 (is .rest) .rest) .value)
+          (cut-joined isBlank l) (optional-sound 94 (cut isBlank l .rest)) (cut-joined isBlank (patternOpened l .rest)) (x .joined) (optional-sound 36 (is .rest)) (cut-joined isBlank (optional 36 (is .rest) .rest)) e;
       before-blank = blanks-sound (cut-run isBlank l);
-      between-blank = blanks-sound (cut-run isBlank (opened l .rest));
+      between-blank = blanks-sound (cut-run isBlank (patternOpened l .rest));
       behind-blank = x .blank;
       after-blank = blanks-sound (cut-run isBlank (optional 36 (is .rest) .rest));
       items-are = x .says;
-      some = some-of (opened l .value) (optional 36 (is .rest) .value) (is .value) t;
+      not-empty = some-of (patternOpened l .value) (optional 36 (is .rest) .value) (is .value) t;
     })
 
 -- only `$` or nothing is left behind the items
@@ -74,11 +74,11 @@ items-left false {before} {text} {behind} {after′} b x k a =
     rw z (items-complete b x (run-append k a) at-end)
 
 -- a pattern that is not wholly empty is found so
-somewhat-of : (s e : Bool) (is : List Item) → (s ≡ false → e ≡ false → is ≡ [] → ⊥) → somewhat s is e ≡ true
-somewhat-of true e is f = refl
-somewhat-of false true is f = refl
-somewhat-of false false [] f = absurd (f refl refl refl)
-somewhat-of false false (i ∷ is) f = refl
+notEmpty-of : (s e : Bool) (is : List Item) → (s ≡ false → e ≡ false → is ≡ [] → ⊥) → notEmpty s is e ≡ true
+notEmpty-of true e is f = refl
+notEmpty-of false true is f = refl
+notEmpty-of false false [] f = absurd (f refl refl refl)
+notEmpty-of false false (i ∷ is) f = refl
 
 -- nothing has no front byte
 no-byte : {b : ℕ} {r : List ℕ} → _≡_ {A = List ℕ} [] (b ∷ r) → ⊥
@@ -86,15 +86,15 @@ no-byte e = let z : _≡_ {A = ℕ} 0 1 = cc in omega arith
 
 -- `$` and blanks end a pattern
 closed-complete : (s e : Bool) (is : List Item) {after′ : List ℕ} → Every Blank after′ → (s ≡ false → e ≡ false → is ≡ [] → ⊥)
-    → closed s is (optional 36 (left e after′)) ≡ some (record { start = s; items = is; end = e })
+    → patternClosed s is (optional 36 (left e after′)) ≡ some (record { start = s; items = is; end = e })
 closed-complete s true is {after′} a f =
     let z : cut isBlank after′ ≡ read after′ [] = rw (append-nil after′) at (cut-exact isBlank (blanks-complete a) end) in
-    rw (optional-yes 36 after′, somewhat-of s true is f, z)
-closed-complete s false is a f = rw (optional-not 36 {l = []} (λ r e. no-byte e), somewhat-of s false is f, cut-exact isBlank none end)
+    rw (optional-yes 36 after′, notEmpty-of s true is f, z)
+closed-complete s false is a f = rw (optional-not 36 {l = []} (λ r e. no-byte e), notEmpty-of s false is f, cut-exact isBlank none end)
 
 -- from the items on a pattern is read
 opened-complete : (s e : Bool) (l : List ℕ) {m after′ : List ℕ} {is : List Item} → Every Blank after′ → (s ≡ false → e ≡ false → is ≡ [] → ⊥)
-    → opened l ≡ read s m → allItems (cut isBlank m .rest) ≡ read is (left e after′) → patternOperand l ≡ some (record { start = s; items = is; end = e })
+    → patternOpened l ≡ read s m → allItems (cut isBlank m .rest) ≡ read is (left e after′) → patternOperand l ≡ some (record { start = s; items = is; end = e })
 unfolding patternOperand
 opened-complete s e l {is = is} a h o r = rw (o, r) (closed-complete s e is a h)
 
@@ -127,15 +127,15 @@ pattern-by false e {before} {between} {text} {behind} {after′} {is} b c x k a 
 
 -- no pattern is missed
 pub pattern-complete : {l : List ℕ} {p : Pattern} → PatternOperand l p → patternOperand l ≡ some p
-pattern-complete {l} {p} x = rw (← (x .joined)) at (pattern-by (p .start) (p .end) (x .before-blank) (x .between-blank) (x .items-are) (x .behind-blank) (x .after-blank) (x .some))
+pattern-complete {l} {p} x = rw (← (x .joined)) at (pattern-by (p .start) (p .end) (x .before-blank) (x .between-blank) (x .items-are) (x .behind-blank) (x .after-blank) (x .not-empty))
 
 -- the items of an operand that is a pattern are the pattern's
-pub items-in : (v : List ℕ) {p : Pattern} → patternOperand v ≡ some p → itemsIn v ≡ p .items
-unfolding patternOperand itemsIn
+pub items-in : (v : List ℕ) {p : Pattern} → patternOperand v ≡ some p → itemsAtFront v ≡ p .items
+unfolding patternOperand itemsAtFront
 items-in v h =
-    let e = optional 36 (listed v .rest) in
-    holds-some (holds-pick (somewhat (opened v .value) (listed v .value) (e .value)) (λ t. go (e .value) (cut isBlank (e .rest) .rest)) (λ t. nothing)) h
+    let e = optional 36 (patternItems v .rest) in
+    holds-some (holds-pick (notEmpty (patternOpened v .value) (patternItems v .value) (e .value)) (λ t. go (e .value) (cut isBlank (e .rest) .rest)) (λ t. nothing)) h
   where
-    go : (e : Bool) (rest : List ℕ) → Holds (λ (q : Pattern). listed v .value ≡ q .items) (ended rest (record { start = opened v .value; items = listed v .value; end = e }))
+    go : (e : Bool) (rest : List ℕ) → Holds (λ (q : Pattern). patternItems v .value ≡ q .items) (ended rest (record { start = patternOpened v .value; items = patternItems v .value; end = e }))
     go e [] = held refl
     go e (b ∷ bs) = nothing

@@ -16,8 +16,10 @@ use Rattle.operand.specs.declared.Items.{Items}
 use Rattle.operand.specs.declared.Meant.the-variants.{Head, Broken}
 use Rattle.operand.specs.declared.Name.the-variants.{Path as pathName}
 use Rattle.operand.specs.Fronts.{Read, ended, optional}
-use Rattle.operand.specs.Patterns.{allItems, somewhat, listed, patternOperand, itemsIn, BlanksEnd, OptionalEnd, ItemsAt}
+use Rattle.operand.specs.Patterns.{allItems, notEmpty, patternItems, patternOperand, itemsAtFront, OptionalEnd, ItemsAt}
 use Rattle.operand.specs.Tests.{meaning, meantOf}
+use Rattle.token.specs.Next.{isBlank, runEnd}
+use Rattle.operand.proofs.Blanks.{blanks-left, blanks-within}
 
 -- a sign is counted as the variant of a record counts it
 signs : (x y : Bool) (start caret end dollar : ℕ) → caret ≡ start + pick x 1 0 → dollar ≡ end + pick y 1 0 → (caret - start) + 2 * (dollar - end) ≡ endsCode x y
@@ -27,7 +29,7 @@ signs false true start caret end dollar e f = omega arith
 signs false false start caret end dollar e f = omega arith
 
 -- a pattern is wholly empty where it has no sign and no item
-empty-found : (x y : Bool) (is : List Item) → endsCode x y + length is ≡ 0 → somewhat x is y ≡ false
+empty-found : (x y : Bool) (is : List Item) → endsCode x y + length is ≡ 0 → notEmpty x is y ≡ false
 empty-found true true is e = absurd (omega arith)
 empty-found true false is e = absurd (omega arith)
 empty-found false true is e = absurd (omega arith)
@@ -35,7 +37,7 @@ empty-found false false [] e = refl
 empty-found false false (i ∷ is) e = absurd (omega arith)
 
 -- and else is not
-some-found : (x y : Bool) (is : List Item) → (endsCode x y + length is ≡ 0 → ⊥) → somewhat x is y ≡ true
+some-found : (x y : Bool) (is : List Item) → (endsCode x y + length is ≡ 0 → ⊥) → notEmpty x is y ≡ true
 some-found true y is n = refl
 some-found false true is n = refl
 some-found false false [] n = absurd (n refl)
@@ -46,17 +48,17 @@ left-over : (l : List ℕ) (p : Pattern) → (length l ≡ 0 → ⊥) → ended 
 left-over [] p n = absurd (n refl)
 left-over (b ∷ bs) p n = refl
 
-module _ {s : List ℕ} {start caret first : ℕ} (a : BlanksEnd s 0 start) (b : OptionalEnd 94 s start caret) (c : BlanksEnd s caret first) where
+module _ {s : List ℕ} {start caret first : ℕ} (a : start ≡ runEnd isBlank s 0) (b : OptionalEnd 94 s start caret) (c : first ≡ runEnd isBlank s caret) where
   -- the items stand behind blanks, maybe `^`, and blanks
-  pub listed-at : listed s ≡ allItems (drop first s)
-  listed-at = rw (c .left, b .left, a .left)
+  pub listed-at : patternItems s ≡ allItems (drop first s)
+  listed-at = rw (blanks-left s caret c, b .left, blanks-left s 0 a)
 
   -- so do those of any bytes
-  pub items-at : itemsIn s ≡ allItems (drop first s) .value
-  unfolding itemsIn
+  pub items-at : itemsAtFront s ≡ allItems (drop first s) .value
+  unfolding itemsAtFront
   items-at = ap (λ (r : Read (List Item)). r .value) listed-at
 
-  module _ {n : Items} (is : ItemsAt s first n) {dollar last : ℕ} (d : OptionalEnd 36 s (n .end) dollar) (e : BlanksEnd s dollar last) where
+  module _ {n : Items} (is : ItemsAt s first n) {dollar last : ℕ} (d : OptionalEnd 36 s (n .end) dollar) (e : last ≡ runEnd isBlank s dollar) where
     -- the parts at the places
     abbrev caret-stands : Bool
     caret-stands = optional 94 (drop start s) .value
@@ -68,9 +70,9 @@ module _ {s : List ℕ} {start caret first : ℕ} (a : BlanksEnd s 0 start) (b :
     found = allItems (drop first s) .value
 
     -- an operand by the places of its parts
-    by-places : patternOperand s ≡ pick (somewhat caret-stands found dollar-stands) (ended (drop last s) (record { start = caret-stands; items = found; end = dollar-stands })) none
+    by-places : patternOperand s ≡ pick (notEmpty caret-stands found dollar-stands) (ended (drop last s) (record { start = caret-stands; items = found; end = dollar-stands })) none
     unfolding patternOperand
-    by-places = rw (listed-at, ← is .left, ← d .left, ← e .left, ← a .left)
+    by-places = rw (listed-at, ← is .left, ← d .left, ← blanks-left s dollar e, ← blanks-left s 0 a)
 
     -- the signs and items of a pattern by the places
     sized : endsCode caret-stands dollar-stands + length found ≡ (caret - start) + 2 * (dollar - n .end) + n .count
@@ -79,7 +81,7 @@ module _ {s : List ℕ} {start caret first : ℕ} (a : BlanksEnd s 0 start) (b :
     -- an operand with bytes left behind its pattern
     pub broken-behind : (last ≡ length s → ⊥) → Broken ≡ meantOf (meaning pathName s)
     unfolding meaning
-    broken-behind h = rw (by-places, alike (somewhat caret-stands found dollar-stands) (left-over (drop last s) (record { start = caret-stands; items = found; end = dollar-stands }) (λ z. h (omega (arith, length-drop last s, e .high)))) refl)
+    broken-behind h = rw (by-places, alike (notEmpty caret-stands found dollar-stands) (left-over (drop last s) (record { start = caret-stands; items = found; end = dollar-stands }) (λ z. h (omega (arith, length-drop last s, blanks-within s dollar e (d .high))))) refl)
 
     -- a wholly empty one
     pub broken-empty : (caret - start) + 2 * (dollar - n .end) + n .count ≡ 0 → Broken ≡ meantOf (meaning pathName s)

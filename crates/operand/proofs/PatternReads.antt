@@ -5,7 +5,7 @@ use native.Mathlib.Omega.{arith}
 use mathlib.Core.Path.{_≡_, refl, sym, ap, _∙_}
 use mathlib.Core.Option.{none, some}
 use mathlib.Core.List.{List, [], _∷_, map}
-use lib.ListN.{length, getD, drop, length-drop}
+use lib.ListN.{length, getD, drop}
 use Rattle.octets.specs.Writes.{lastPlace, Written}
 use Rattle.octets.proofs.Writes.{Midst, moves, ends}
 use Rattle.aspath.specs.declared.Item.{Item}
@@ -13,16 +13,18 @@ use Rattle.aspath.specs.declared.Item.the-variants.{Number, Other, Any}
 use Rattle.program.specs.Records.{item}
 use Rattle.program.specs.Layout.{fieldsOf, laid, encodeAll}
 use Rattle.operand.proofs.Holding.{holds-some}
+use Rattle.operand.proofs.Numbers.{number-moves}
 use Rattle.operand.proofs.Places.{after-here, after-other, after-end}
 use Rattle.operand.proofs.OperandItems.{item-shorter, cut-shorter, items-fuel}
 use Rattle.operand.specs.declared.ItemRead.{ItemRead}
 use Rattle.operand.specs.declared.ItemRead.the-variants.{Read as Found, Missing}
 use Rattle.operand.specs.declared.Number.{Number as Numbers}
 use Rattle.operand.specs.declared.Number.the-variants.{Read as Numeral, Missing as Unread}
-use Rattle.operand.specs.Decimals.{leftAt, Numbered}
+use Rattle.operand.specs.Decimals.{number, leftAt, ReadAt}
 use Rattle.operand.specs.Fronts.{Read, read, after, optional, cut}
-use Rattle.token.specs.Next.{isBlank}
-use Rattle.operand.specs.Patterns.{itemRead, followed, itemsRead, allItems, BlanksEnd, OptionalEnd, itemLeft, ItemAt, ItemsAt}
+use Rattle.token.specs.Next.{isBlank, runEnd}
+use Rattle.operand.proofs.Blanks.{blanks-left, blanks-count, blanks-within}
+use Rattle.operand.specs.Patterns.{itemRead, followed, itemsRead, allItems, OptionalEnd, itemLeft, ItemAt, ItemsAt}
 
 -- ---- one byte at a place
 
@@ -36,13 +38,6 @@ pub optional-here : (b : ℕ) (s : List ℕ) (at : ℕ) → at < length s → ge
 unfolding optional
 optional-here b s at h e = record { left = rw (after-here s at b h e); place = rw (after-here s at b h e); high = omega arith }
 
--- ---- blanks
-
--- there are as many as places between
-gap-length : {s : List ℕ} {at r : ℕ} → BlanksEnd s at r → length (cut isBlank (drop at s) .value) + at ≡ r
-gap-length {s} {at} {r} b =
-    omega (arith, cut-shorter isBlank (drop at s), ap length (b .left), length-drop at s, length-drop r s)
-
 -- ---- an item
 
 -- no item stands at a place
@@ -53,13 +48,11 @@ none-at e = record { said = sym e; ends = λ i e h. let z : _≡_ {A = ℕ} 0 1 
 one-at : {s : List ℕ} {at e : ℕ} {i : Item} → itemRead (drop at s) ≡ some (read i (drop e s)) → at < e → e ≤ length s → ItemAt s at (Found i e)
 one-at {s} {at} {e} h l u = record { said = sym h; ends = λ j f z. let w : e ≡ f = cc in (omega arith, omega arith) }
 
-module _ {s : List ℕ} {at : ℕ} {n : Numbers} (x : Numbered s at (2 ^ 32) n) where
+module _ {s : List ℕ} {at : ℕ} {n : Numbers} (x : ReadAt (number (2 ^ 32)) s at (2 ^ 32) n) where
   -- a number
   pub item-number : {v e : ℕ} → n ≡ Numeral v e → ItemAt s at (Found (Number v) e)
   unfolding itemRead
-  item-number {v} {e} z =
-      let l = x .ends v e z in
-      one-at (rw (sym (x .said) ∙ ap (leftAt s) z)) (l .0) (l .1)
+  item-number {v} {e} z = one-at (rw (sym (x .said) ∙ ap (leftAt s) z)) (number-moves x z) (x .ends v e z .0)
 
   module _ (m : n ≡ Unread) where
     -- nothing
@@ -77,7 +70,7 @@ module _ {s : List ℕ} {at : ℕ} {n : Numbers} (x : Numbered s at (2 ^ 32) n) 
     unfolding itemRead
     item-neither h p q = none-at (rw (sym (x .said) ∙ ap (leftAt s) m, after-other s at 46 h p, after-other s at 33 h q))
 
-    module _ (h : at < length s) (p : getD s at 0 ≡ 46 → ⊥) (q : getD s at 0 ≡ 33) {o : Numbers} (y : Numbered s (at + 1) (2 ^ 32) o) where
+    module _ (h : at < length s) (p : getD s at 0 ≡ 46 → ⊥) (q : getD s at 0 ≡ 33) {o : Numbers} (y : ReadAt (number (2 ^ 32)) s (at + 1) (2 ^ 32) o) where
       -- `!` before no number
       pub item-bare : o ≡ Unread → ItemAt s at Missing
       unfolding itemRead
@@ -87,8 +80,8 @@ module _ {s : List ℕ} {at : ℕ} {n : Numbers} (x : Numbered s at (2 ^ 32) n) 
       pub item-other : {v e : ℕ} → o ≡ Numeral v e → ItemAt s at (Found (Other v) e)
       unfolding itemRead
       item-other {v} {e} z =
-          let l = y .ends v e z in
-          one-at (rw (sym (x .said) ∙ ap (leftAt s) m, after-other s at 46 h p, after-here s at 33 h q, sym (y .said) ∙ ap (leftAt s) z)) (omega arith) (l .1)
+          let l = number-moves y z in
+          one-at (rw (sym (x .said) ∙ ap (leftAt s) m, after-other s at 46 h p, after-here s at 33 h q, sym (y .said) ∙ ap (leftAt s) z)) (omega arith) (y .ends v e z .0)
 
 -- ---- items
 
@@ -112,14 +105,14 @@ module _ {s : List ℕ} {at : ℕ} {r : ItemRead} (x : ItemAt s at r) where
   pub items-missing : r ≡ Missing → allItems (drop at s) ≡ read [] (drop at s)
   items-missing e = items-none (drop at s) (sym (x .said) ∙ ap (itemLeft s) e)
 
-  module _ {i : Item} {e q : ℕ} (is : r ≡ Found i e) (b : BlanksEnd s e q) where
+  module _ {i : Item} {e q : ℕ} (is : r ≡ Found i e) (b : q ≡ runEnd isBlank s e) where
     -- an item stands there
     found : allItems (drop at s) ≡ followed allItems i (cut isBlank (drop e s) .value) (drop q s)
-    found = rw (b .left) (items-some (drop at s) (sym (x .said) ∙ ap (itemLeft s) is))
+    found = rw (blanks-left s e b) (items-some (drop at s) (sym (x .said) ∙ ap (itemLeft s) is))
 
     -- an item with no blank behind it is the last
     pub items-last : q ≡ e → allItems (drop at s) ≡ read (i ∷ []) (drop q s)
-    items-last z = found ∙ go (cut isBlank (drop e s) .value) (gap-length b)
+    items-last z = found ∙ go (cut isBlank (drop e s) .value) (blanks-count s e b)
       where
         go : (gap : List ℕ) → length gap + e ≡ q → followed allItems i gap (drop q s) ≡ read (i ∷ []) (drop q s)
         go [] h = refl
@@ -127,7 +120,7 @@ module _ {s : List ℕ} {at : ℕ} {r : ItemRead} (x : ItemAt s at r) where
 
     -- items stand behind one with blanks behind it
     pub items-more : (q ≡ e → ⊥) → allItems (drop at s) ≡ read (i ∷ allItems (drop q s) .value) (allItems (drop q s) .rest)
-    items-more n = found ∙ go (cut isBlank (drop e s) .value) (gap-length b)
+    items-more n = found ∙ go (cut isBlank (drop e s) .value) (blanks-count s e b)
       where
         go : (gap : List ℕ) → length gap + e ≡ q → followed allItems i gap (drop q s) ≡ read (i ∷ allItems (drop q s) .value) (allItems (drop q s) .rest)
         go [] h = absurd (n (omega arith))
@@ -148,19 +141,20 @@ module _ {s : List ℕ} {at count p : ℕ} {r : ItemRead} (k : Counted s at coun
       let m = items-missing x z in
       record { count-is = rw (m, add-zero) at (k .total); left = rw m at (k .left); high = k .high; few = omega (arith, k .few, k .high) }
 
-  module _ {i : Item} {e q : ℕ} (is : r ≡ Found i e) (b : BlanksEnd s e q) where
+  module _ {i : Item} {e q : ℕ} (is : r ≡ Found i e) (b : q ≡ runEnd isBlank s e) where
     -- the last is counted
     pub counted-last : q ≡ e → ItemsAt s at (record { count = count + 1; end = q })
     counted-last z =
         let m = items-last x is b z in
-        record { count-is = rw m at (k .total); left = rw m at (k .left); high = b .high; few = omega (arith, x .ends i e is, k .few, b .low, b .high) }
+        let h = blanks-within s e b (x .ends i e is .1) in
+        record { count-is = rw m at (k .total); left = rw m at (k .left); high = h; few = omega (arith, x .ends i e is, k .few) }
 
     -- one is counted, and others stand behind it
     pub counted-next : (q ≡ e → ⊥) → Counted s at (count + 1) q
     counted-next n =
         let m = items-more x is b n in
         let t : count + suc (length (allItems (drop q s) .value)) ≡ length (allItems (drop at s) .value) = rw m at (k .total) in
-        record { few = omega (arith, x .ends i e is, k .few, b .low); high = b .high; total = omega arith; left = rw m at (k .left) }
+        record { few = omega (arith, x .ends i e is, k .few); high = blanks-within s e b (x .ends i e is .1); total = omega arith; left = rw m at (k .left) }
 
 -- ---- writing the records of the items from a place on
 
@@ -174,7 +168,7 @@ module _ {s : List ℕ} {p : ℕ} {r : ItemRead} (x : ItemAt s p r) {old now tex
   unfolding encodeAll
   written-none z = ends (rw (items-missing x z) at m)
 
-  module _ {i : Item} {e q after′ : ℕ} {new : List ℕ} (is : r ≡ Found i e) (b : BlanksEnd s e q) (w : Written now place (laid (fieldsOf (item i))) new after′) (h : after′ ≤ lastPlace) where
+  module _ {i : Item} {e q after′ : ℕ} {new : List ℕ} (is : r ≡ Found i e) (b : q ≡ runEnd isBlank s e) (w : Written now place (laid (fieldsOf (item i))) new after′) (h : after′ ≤ lastPlace) where
     -- the last is written
     pub written-last : q ≡ e → Written old at text new after′
     unfolding encodeAll

@@ -10,7 +10,7 @@ use lib.Dec.{ltb}
 use lib.ListN.{length, getD, drop, drop-of-length-le, List·getD-eq-default}
 use lib.Seq.{drop-cons}
 use borrow.Author.Tests.{eq-eqb, ne-eqb, ltb-true, ltb-false}
-use Rattle.operand.specs.Fronts.{ended, after, cut}
+use Rattle.operand.specs.Fronts.{ended, after}
 use Rattle.operand.proofs.FrontReads.{Stops, end, other}
 
 module _ (s : List ℕ) (at : ℕ) where
@@ -44,17 +44,6 @@ module _ (s : List ℕ) (at : ℕ) where
   -- something is
   pub ended-left : {A : Type 0} (a : A) → at < length s → ended (drop at s) a ≡ none
   ended-left a h = rw (drop-cons s at 0)
-
-  -- a run goes on behind a byte that passes
-  pub cut-onward : (p : ℕ → Bool) → at < length s → p (getD s at 0) ≡ true → cut p (drop at s) .rest ≡ cut p (drop (at + 1) s) .rest
-  unfolding cut
-  cut-onward p h e = rw (drop-cons s at 0, e, add-one)
-
--- where it stops nothing is taken
-pub cut-stop : {p : ℕ → Bool} {l : List ℕ} → Stops p l → cut p l .rest ≡ l
-unfolding cut
-cut-stop end = refl
-cut-stop (other e) = rw e
 
 -- a byte that is not 0 stands before the end
 pub within-of : (s : List ℕ) (at : ℕ) → 1 ≤ getD s at 0 → at < length s

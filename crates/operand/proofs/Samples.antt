@@ -57,7 +57,7 @@ sample pathName =
       behind-blank = none;
       after-blank = none;
       items-are = last any;
-      some = λ s e i. no-item i;
+      not-empty = λ s e i. no-item i;
     })
   where
     no-item : _≡_ {A = List Item} (Any ∷ []) [] → ⊥

@@ -1,4 +1,4 @@
--- Addresses and networks.
+-- Addresses and networks: the operands of `-exact`, `-supernet`, `-subnet`, `-related`.
 use Prim.Native.Nat.{ℕ, _+_, _*_}
 use mathlib.Core.Path.{_≡_}
 use mathlib.Core.Option.{Option, some}
@@ -9,7 +9,7 @@ use Rattle.octets.specs.Choice.{pick}
 use Rattle.network.specs.declared.Network.{Network}
 use Rattle.network.specs.Networks.{masked}
 use Rattle.program.specs.Readings.{Side, eitherSide, announced, withdrawn}
-use Rattle.operand.specs.Fronts.{onward, Read, read, ended, after}
+use Rattle.operand.specs.Fronts.{onward, Read, read, after}
 use Rattle.operand.specs.Decimals.{Below, numeral, number}
 
 -- `a.b.c.d`, each part 0 to 255
@@ -48,33 +48,33 @@ pub data NetworkOperand : List ℕ → Side → Network → Type 0 where
 
 -- ---- what the code computes
 
-unfoldable pub part : List ℕ → Option (Read ℕ)
-part l = onward (number 256 l) (λ n. onward (after 46 (n .rest)) (λ r. some (read (n .value) r)))
+-- the part at the front, and what is left behind its dot
+unfoldable pub partRead : List ℕ → Option (Read ℕ)
+partRead l = onward (number 256 l) (λ n. onward (after 46 (n .rest)) (λ r. some (read (n .value) r)))
 
+-- the address at the front
 unfoldable pub addressRead : List ℕ → Option (Read ℕ)
 addressRead l =
-    onward (part l) (λ a. onward (part (a .rest)) (λ b. onward (part (b .rest)) (λ c. onward (number 256 (c .rest)) (λ d.
+    onward (partRead l) (λ a. onward (partRead (a .rest)) (λ b. onward (partRead (b .rest)) (λ c. onward (number 256 (c .rest)) (λ d.
     some (read (((a .value * 256 + b .value) * 256 + c .value) * 256 + d .value) (d .rest))))))
 
--- the address that these bytes write
-unfoldable pub addressOf : List ℕ → Option ℕ
-addressOf l = onward (addressRead l) (λ a. ended (a .rest) (a .value))
+-- the network that these bytes write
+unfoldable pub networkRead : List ℕ → Option Network
+networkRead l = onward (addressRead l) (λ a. onward (after 47 (a .rest)) (λ r. onward (numeral 33 r) (λ n. some (masked 32 (a .value) n))))
 
-unfoldable pub networkText : List ℕ → Option Network
-networkText l = onward (addressRead l) (λ a. onward (after 47 (a .rest)) (λ r. onward (numeral 33 r) (λ n. some (masked 32 (a .value) n))))
-
+-- a network, and the side that it is asked of
 pub record Sided : Type 0 where
   pub side : Side
   pub network : Network
 
--- a network on a side
+-- both together
 abbrev pub sided : Side → Network → Sided
 sided s n = record { side = s; network = n }
 
--- a network on one side
+-- the network that these bytes write, on a side
 abbrev pub sideOf : Side → List ℕ → Option Sided
-sideOf s l = onward (networkText l) (λ n. some (sided s n))
+sideOf s l = onward (networkRead l) (λ n. some (sided s n))
 
--- by the first byte
+-- the side by the first byte
 unfoldable pub networkOperand : List ℕ → Option Sided
 networkOperand l = pick (eqb (getD l 0 0) 43) (sideOf announced (drop 1 l)) (pick (eqb (getD l 0 0) 45) (sideOf withdrawn (drop 1 l)) (sideOf eitherSide l))

@@ -32,10 +32,11 @@ pub data Digits : ℕ → List ℕ → ℕ → Type 0 where
 
 -- ---- what the code computes
 
+-- `0` to `9`
 unfoldable pub isDigit : ℕ → Bool
 isDigit b = pick (leb 48 b) (leb b 57) false
 
--- behind digits that say n, or none yet where fresh: none at a digit behind a leading zero, none at the limit
+-- behind digits that say n, or none yet where fresh: none at a digit behind a leading zero, none from the limit on
 unfoldable pub numberOn : ℕ → Bool → ℕ → List ℕ → Option (Read ℕ)
 numberOn limit fresh n [] = pick fresh none (some (read n []))
 numberOn limit fresh n (b ∷ bs) =
@@ -65,7 +66,3 @@ valueOf missing = none
 pub record ReadAt (reader : List ℕ → Option (Read ℕ)) (s : List ℕ) (at limit : ℕ) (r : Number) : Type 0 where
   pub said : leftAt s r ≡ reader (drop at s)
   pub ends : (v e : ℕ) → r ≡ readTo v e → (e ≤ length s) × (v < limit)
-
-pub record Numbered (s : List ℕ) (at limit : ℕ) (r : Number) : Type 0 where
-  pub said : leftAt s r ≡ number limit (drop at s)
-  pub ends : (v e : ℕ) → r ≡ readTo v e → (at < e) × (e ≤ length s) × (v < limit)

@@ -4,23 +4,21 @@ use mathlib.Core.Bool.{Bool, true, false}
 use mathlib.Core.Option.{Option, none, some}
 use mathlib.Core.List.{List, [], _∷_}
 use lib.Dec.{eqb}
+use lib.ListN.{take, drop}
 use Rattle.octets.specs.Choice.{pick}
+use Rattle.token.specs.Next.{run}
 
 -- go on with an answer
 abbrev pub onward : {A B : Type 0} → Option A → (A → Option B) → Option B
 onward none f = none
 onward (some a) f = f a
 
--- the first of two answers
-abbrev pub orElse : {A : Type 0} → Option A → Option A → Option A
-orElse none o = o
-orElse (some a) o = some a
-
 -- what was read at the front, and what is left behind it
 pub record Read (A : Type 0) : Type 0 where
   pub value : A
   pub rest : List ℕ
 
+-- a value that was read, and what is left
 abbrev pub read : {A : Type 0} → A → List ℕ → Read A
 read a r = record { value = a; rest = r }
 
@@ -34,15 +32,15 @@ unfoldable pub after : ℕ → List ℕ → Option (List ℕ)
 after b [] = none
 after b (x ∷ xs) = pick (eqb x b) (some xs) none
 
--- whether the byte b stands at the front
+-- whether something was taken, and what is left
 abbrev pub chosen : List ℕ → Option (List ℕ) → Read Bool
 chosen l none = read false l
 chosen l (some r) = read true r
 
+-- whether the byte b stands at the front, and what is left behind it
 unfoldable pub optional : ℕ → List ℕ → Read Bool
 optional b l = chosen l (after b l)
 
--- the run, and what is left
+-- the bytes at the front that pass a test, and what is left behind them
 unfoldable pub cut : (ℕ → Bool) → List ℕ → Read (List ℕ)
-cut p [] = read [] []
-cut p (b ∷ bs) = pick (p b) (read (b ∷ cut p bs .value) (cut p bs .rest)) (read [] (b ∷ bs))
+cut p l = read (take (run p l) l) (drop (run p l) l)

@@ -1,5 +1,6 @@
 pub mod Fronts
 pub mod Decimals
+pub mod Tables
 pub mod Codes
 pub mod Addresses
 pub mod Peers

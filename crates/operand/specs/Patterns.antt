@@ -5,12 +5,12 @@ use mathlib.Core.Bool.{Bool, true, false}
 use mathlib.Core.Option.{Option, none, some}
 use mathlib.Core.List.{List, [], _∷_, _++_}
 use lib.ListN.{length, drop}
-use Rattle.octets.specs.Choice.{pick}
+use Rattle.octets.specs.Choice.{pick, orElse}
 use Rattle.aspath.specs.declared.Item.{Item}
 use Rattle.aspath.specs.declared.Item.the-variants.{Number, Other, Any}
 use Rattle.aspath.specs.Patterns.{Pattern}
 use Rattle.token.specs.Texts.{Blank, Every}
-use Rattle.operand.specs.Fronts.{onward, orElse, Read, read, ended, after, optional, cut}
+use Rattle.operand.specs.Fronts.{onward, Read, read, ended, after, optional, cut}
 use Rattle.token.specs.Next.{isBlank}
 use Rattle.operand.specs.Decimals.{AsNumber, number}
 use Rattle.operand.specs.declared.ItemRead.{ItemRead}
@@ -23,12 +23,14 @@ pub data ItemText : List ℕ → Item → Type 0 where
   not-it : {bs : List ℕ} {n : ℕ} → AsNumber bs n → ItemText (33 ∷ bs) (Other n)
   any : ItemText (46 ∷ []) Any
 
+-- items parted by blanks, one or more; or none
 pub data ItemsText : List ℕ → List Item → Type 0 where
   empty : ItemsText [] []
   last : {bs : List ℕ} {i : Item} → ItemText bs i → ItemsText bs (i ∷ [])
   more : {bs gap rest l : List ℕ} {i j : Item} {items : List Item} → ItemText bs i → Every Blank gap → 1 ≤ length gap → ItemsText rest (j ∷ items)
       → l ≡ bs ++ (gap ++ rest) → ItemsText l (i ∷ j ∷ items)
 
+-- blanks, maybe `^`, blanks, the items, blanks, maybe `$`, blanks
 pub record PatternOperand (bs : List ℕ) (p : Pattern) : Type 0 where
   pub before : List ℕ
   pub between : List ℕ
@@ -42,7 +44,7 @@ pub record PatternOperand (bs : List ℕ) (p : Pattern) : Type 0 where
   pub after-blank : Every Blank after
   pub items-are : ItemsText text (p .items)
   -- wholly empty is bad
-  pub some : p .start ≡ false → p .end ≡ false → p .items ≡ [] → ⊥
+  pub not-empty : p .start ≡ false → p .end ≡ false → p .items ≡ [] → ⊥
 
 -- ---- what the code computes
 
@@ -73,39 +75,33 @@ abbrev pub allItems : List ℕ → Read (List Item)
 allItems l = itemsRead (length l) l
 
 -- `^`, `$` or an item
-abbrev pub somewhat : Bool → List Item → Bool → Bool
-somewhat true is e = true
-somewhat false is true = true
-somewhat false [] false = false
-somewhat false (i ∷ is) false = true
+abbrev pub notEmpty : Bool → List Item → Bool → Bool
+notEmpty true is e = true
+notEmpty false is true = true
+notEmpty false [] false = false
+notEmpty false (i ∷ is) false = true
 
 -- what stands behind the items: maybe `$`, blanks, and no more
-abbrev pub closed : Bool → List Item → Read Bool → Option Pattern
-closed s is e = pick (somewhat s is (e .value)) (ended (cut isBlank (e .rest) .rest) (record { start = s; items = is; end = e .value })) none
+abbrev pub patternClosed : Bool → List Item → Read Bool → Option Pattern
+patternClosed s is e = pick (notEmpty s is (e .value)) (ended (cut isBlank (e .rest) .rest) (record { start = s; items = is; end = e .value })) none
 
 -- blanks and maybe `^`
-abbrev pub opened : List ℕ → Read Bool
-opened l = optional 94 (cut isBlank l .rest)
+abbrev pub patternOpened : List ℕ → Read Bool
+patternOpened l = optional 94 (cut isBlank l .rest)
 
 -- the items behind these and blanks
-abbrev pub listed : List ℕ → Read (List Item)
-listed l = allItems (cut isBlank (opened l .rest) .rest)
+abbrev pub patternItems : List ℕ → Read (List Item)
+patternItems l = allItems (cut isBlank (patternOpened l .rest) .rest)
 
 -- the pattern that these bytes write
 unfoldable pub patternOperand : List ℕ → Option Pattern
-patternOperand l = closed (opened l .value) (listed l .value) (optional 36 (listed l .rest))
+patternOperand l = patternClosed (patternOpened l .value) (patternItems l .value) (optional 36 (patternItems l .rest))
 
 -- the items at the front of any bytes, whatever follows
-unfoldable pub itemsIn : List ℕ → List Item
-itemsIn l = listed l .value
+unfoldable pub itemsAtFront : List ℕ → List Item
+itemsAtFront l = patternItems l .value
 
 -- ---- what the answers of the code say, by places
-
--- the blanks from a place on end at r
-pub record BlanksEnd (s : List ℕ) (at r : ℕ) : Type 0 where
-  pub left : drop r s ≡ cut isBlank (drop at s) .rest
-  pub low : at ≤ r
-  pub high : r ≤ length s
 
 -- r is the place after a byte b that may stand at a place
 pub record OptionalEnd (b : ℕ) (s : List ℕ) (at r : ℕ) : Type 0 where

@@ -12,6 +12,7 @@ use Rattle.token.specs.Next.{isBlank}
 use Rattle.operand.specs.Decimals.{AsNumber, numeral}
 use Rattle.operand.specs.Addresses.{Address, addressRead}
 
+-- an AS number, an address, or an address and an AS number with blanks between
 pub data PeerOperand : List ℕ → Peer → Type 0 where
   by-as : {bs : List ℕ} {n : ℕ} → AsNumber bs n → PeerOperand bs (byAs n)
   by-address : {bs : List ℕ} {a : ℕ} → Address bs a → PeerOperand bs (byAddress a)
@@ -30,5 +31,6 @@ abbrev pub peerBy : List ℕ → Option (Read ℕ) → Option Peer
 peerBy l none = onward (numeral (2 ^ 32) l) (λ n. some (byAs n))
 peerBy l (some a) = behindAddress (a .value) (a .rest)
 
+-- the peer that these bytes write
 unfoldable pub peerOperand : List ℕ → Option Peer
 peerOperand l = peerBy l (addressRead l)

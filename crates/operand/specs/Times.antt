@@ -14,6 +14,7 @@ use Rattle.operand.specs.declared.Number.{Number}
 use Rattle.operand.specs.declared.Number.the-variants.{Read as readTo}
 use Rattle.operand.specs.declared.Sign.{Sign}
 
+-- `=`, `<`, `<=`, `>`, `>=`, or none for `=`
 pub data ComparisonText : List ℕ → Comparison → Type 0 where
   unsigned : ComparisonText [] equal
   equals : ComparisonText (61 ∷ []) equal
@@ -22,11 +23,12 @@ pub data ComparisonText : List ℕ → Comparison → Type 0 where
   greater : ComparisonText (62 ∷ []) above
   at-least : ComparisonText (62 ∷ 61 ∷ []) atLeast
 
--- nothing, or a dot and a fraction; in microseconds
+-- nothing, or a dot and 1 to 6 digits; in microseconds: `.5` is 500,000
 pub data FractionText : List ℕ → ℕ → Type 0 where
   whole : FractionText [] 0
   fraction : {bs : List ℕ} {n : ℕ} → Digits 0 bs n → 1 ≤ length bs → length bs ≤ 6 → FractionText (46 ∷ bs) (n * 10 ^ (6 - length bs))
 
+-- a comparison, seconds below 2^32, and maybe a fraction
 pub record TimeOperand (bs : List ℕ) (c : Comparison) (seconds micros : ℕ) : Type 0 where
   pub sign : List ℕ
   pub whole : List ℕ
@@ -42,20 +44,23 @@ pub record TimeOperand (bs : List ℕ) (c : Comparison) (seconds micros : ℕ) :
 abbrev pub orEqual : Comparison → Comparison → List ℕ → Read Comparison
 orEqual c d l = pick (eqb (getD l 0 0) 61) (read d (drop 1 l)) (read c l)
 
--- by the first byte
+-- the comparison at the front, by its first byte
 unfoldable pub comparison : List ℕ → Read Comparison
 comparison l =
     pick (eqb (getD l 0 0) 61) (read equal (drop 1 l))
     (pick (eqb (getD l 0 0) 60) (orEqual below atMost (drop 1 l)) (pick (eqb (getD l 0 0) 62) (orEqual above atLeast (drop 1 l)) (read equal l)))
 
+-- the number that digits say after a number, with any zeros; none where another byte stands
 unfoldable pub anyDigits : ℕ → List ℕ → Option ℕ
 anyDigits n [] = some n
 anyDigits n (b ∷ bs) = pick (isDigit b) (anyDigits (10 * n + (b - 48)) bs) none
 
+-- the microseconds of what stands behind the seconds
 unfoldable pub fractionOf : List ℕ → Option ℕ
 fractionOf [] = some 0
 fractionOf (x ∷ bs) = pick (eqb x 46) (pick (leb 1 (length bs)) (pick (leb (length bs) 6) (onward (anyDigits 0 bs) (λ n. some (n * 10 ^ (6 - length bs)))) none) none) none
 
+-- what an operand of `-timestamp` says
 pub record Moment : Type 0 where
   pub comparison : Comparison
   pub seconds : ℕ
@@ -65,6 +70,7 @@ pub record Moment : Type 0 where
 abbrev pub moment : Comparison → ℕ → ℕ → Moment
 moment c s m = record { comparison = c; seconds = s; micros = m }
 
+-- the time that these bytes write
 unfoldable pub timeOperand : List ℕ → Option Moment
 timeOperand l = onward (number (2 ^ 32) (comparison l .rest)) (λ s. onward (fractionOf (s .rest)) (λ m. some (moment (comparison l .value) (s .value) m)))
 

@@ -5,18 +5,19 @@ ghost use mathlib.Core.List.{map};
 ghost use mathlib.Core.Option.{some};
 ghost use lib.ListN.{length, drop};
 ghost use lib.Dec.{leb};
-ghost use Rattle.octets.specs.Choice.{pick};
+ghost use Rattle.octets.specs.Choice.{pick, orElse};
 ghost use Rattle.octets.specs.Writes.{Written};
 ghost use Rattle.program.specs.Readings.{byAs};
 ghost use Rattle.program.specs.Records.{item};
 ghost use Rattle.program.specs.Layout.{fields, fieldsOf, encodeAll, relationCode, sideIs};
-ghost use Rattle.operand.specs.Fronts.{onward, orElse};
-ghost use Rattle.token.specs.Next.{isBlank};
-ghost use Rattle.operand.specs.Decimals.{isDigit, numeral, valueOf, Numbered, ReadAt};
-ghost use Rattle.operand.specs.Codes.{same, found, nameOf, codeOf, namedCode, typeNames, attributeNames};
-ghost use Rattle.operand.specs.Addresses.{part, addressRead, networkText};
+ghost use Rattle.token.specs.Texts.{textLimit};
+ghost use Rattle.operand.specs.Fronts.{onward};
+ghost use Rattle.operand.specs.Decimals.{isDigit, number, numeral, valueOf, ReadAt};
+ghost use Rattle.operand.specs.Tables.{found};
+ghost use Rattle.operand.specs.Codes.{namedCode, typeNames, attributeNames};
+ghost use Rattle.operand.specs.Addresses.{partRead, addressRead, networkRead};
 ghost use Rattle.operand.specs.Peers.{behindAddress};
-ghost use Rattle.operand.specs.Patterns.{BlanksEnd, OptionalEnd, ItemAt, ItemsAt, itemsIn};
+ghost use Rattle.operand.specs.Patterns.{OptionalEnd, ItemAt, ItemsAt, itemsAtFront};
 ghost use Rattle.operand.specs.Times.{fractionOf, Signed, Digited};
 ghost use Rattle.operand.specs.Tests.{meaning, meantOf, meantBy, codeMeant, peerMeant, networkMeant};
 use aspath::Item;
@@ -97,7 +98,7 @@ fn number_between(at: usize, end: usize, value: u32) -> Number
 // The number at a place: no leading zeros, below the limit.
 fn number_at(s: &[u8], at: usize, limit: u64) -> Number
     requires { ⌜ (at ≤ length (now s)) × (limit ≤ 4294967296) ⌝ }
-    ensures { λ r. ⌜ Numbered (now (s .entry)) at limit r ⌝ }
+    ensures { λ r. ⌜ ReadAt (number limit) (now (s .entry)) at limit r ⌝ }
 {
     let mut n: u64 = 0;
     let mut end = at;
@@ -134,40 +135,23 @@ fn numeral(s: &[u8], at: usize, limit: u64) -> Number
     Number::Read { value, end }
 }
 
-// Whether two words are the same.
-pub fn same(a: &[u8], b: &[u8]) -> bool
-    ensures { λ r. ⌜ r ≡ same (now (a .entry)) (now (b .entry)) ⌝ }
-{
-    if a.len() != b.len() {
-        return false;
-    }
-    let mut i = 0;
-    while i < a.len() {
-        if a[i] != b[i] {
-            return false;
-        }
-        i += 1;
-    }
-    true
-}
-
 // The code of a message type's name, 0 where it is none.
 fn type_named(bytes: &[u8]) -> u32
-    ensures { λ r. ⌜ namedCode r ≡ found nameOf codeOf typeNames (now (bytes .entry)) ⌝ }
+    ensures { λ r. ⌜ namedCode r ≡ found typeNames (now (bytes .entry)) ⌝ }
 {
-    if same(b"OPEN", bytes) {
+    if octets::same(bytes, b"OPEN") {
         return 1;
     }
-    if same(b"UPDATE", bytes) {
+    if octets::same(bytes, b"UPDATE") {
         return 2;
     }
-    if same(b"NOTIFICATION", bytes) {
+    if octets::same(bytes, b"NOTIFICATION") {
         return 3;
     }
-    if same(b"KEEPALIVE", bytes) {
+    if octets::same(bytes, b"KEEPALIVE") {
         return 4;
     }
-    if same(b"ROUTE_REFRESH", bytes) {
+    if octets::same(bytes, b"ROUTE_REFRESH") {
         return 5;
     }
     0
@@ -175,21 +159,21 @@ fn type_named(bytes: &[u8]) -> u32
 
 // The codes of the attributes' names from 14 on.
 fn later_attribute_named(bytes: &[u8]) -> u32
-    ensures { λ r. ⌜ namedCode r ≡ found nameOf codeOf (drop 8 attributeNames) (now (bytes .entry)) ⌝ }
+    ensures { λ r. ⌜ namedCode r ≡ found (drop 8 attributeNames) (now (bytes .entry)) ⌝ }
 {
-    if same(b"MP_REACH_NLRI", bytes) {
+    if octets::same(bytes, b"MP_REACH_NLRI") {
         return 14;
     }
-    if same(b"MP_UNREACH_NLRI", bytes) {
+    if octets::same(bytes, b"MP_UNREACH_NLRI") {
         return 15;
     }
-    if same(b"AS4_PATH", bytes) {
+    if octets::same(bytes, b"AS4_PATH") {
         return 17;
     }
-    if same(b"AS4_AGGREGATOR", bytes) {
+    if octets::same(bytes, b"AS4_AGGREGATOR") {
         return 18;
     }
-    if same(b"LARGE_COMMUNITY", bytes) {
+    if octets::same(bytes, b"LARGE_COMMUNITY") {
         return 32;
     }
     0
@@ -197,30 +181,30 @@ fn later_attribute_named(bytes: &[u8]) -> u32
 
 // The code of an attribute's name, 0 where it is none.
 fn attribute_named(bytes: &[u8]) -> u32
-    ensures { λ r. ⌜ namedCode r ≡ found nameOf codeOf attributeNames (now (bytes .entry)) ⌝ }
+    ensures { λ r. ⌜ namedCode r ≡ found attributeNames (now (bytes .entry)) ⌝ }
 {
-    if same(b"ORIGIN", bytes) {
+    if octets::same(bytes, b"ORIGIN") {
         return 1;
     }
-    if same(b"AS_PATH", bytes) {
+    if octets::same(bytes, b"AS_PATH") {
         return 2;
     }
-    if same(b"NEXT_HOP", bytes) {
+    if octets::same(bytes, b"NEXT_HOP") {
         return 3;
     }
-    if same(b"MULTI_EXIT_DISC", bytes) {
+    if octets::same(bytes, b"MULTI_EXIT_DISC") {
         return 4;
     }
-    if same(b"LOCAL_PREF", bytes) {
+    if octets::same(bytes, b"LOCAL_PREF") {
         return 5;
     }
-    if same(b"ATOMIC_AGGREGATE", bytes) {
+    if octets::same(bytes, b"ATOMIC_AGGREGATE") {
         return 6;
     }
-    if same(b"AGGREGATOR", bytes) {
+    if octets::same(bytes, b"AGGREGATOR") {
         return 7;
     }
-    if same(b"COMMUNITY", bytes) {
+    if octets::same(bytes, b"COMMUNITY") {
         return 8;
     }
     later_attribute_named(bytes)
@@ -242,7 +226,7 @@ fn code_record(kind: u32, named: u32, bytes: &[u8]) -> Meant
 // A part of an address and its dot.
 fn part(s: &[u8], at: usize) -> Number
     requires { ⌜ at ≤ length (now s) ⌝ }
-    ensures { λ r. ⌜ ReadAt part (now (s .entry)) at 256 r ⌝ }
+    ensures { λ r. ⌜ ReadAt partRead (now (s .entry)) at 256 r ⌝ }
 {
     let Number::Read { value, end } = number_at(s, at, 256) else {
         return Number::Missing;
@@ -295,7 +279,7 @@ fn relation_code(relation: Relation) -> u32
 // The record of the network at a place, on a side.
 fn network_record(bytes: &[u8], at: usize, relation: Relation, side: u32) -> Meant
     requires { ⌜ (at ≤ length (now bytes)) × (side ≤ 2) ⌝ }
-    ensures { λ r. ⌜ r ≡ networkMeant relation (sideIs side) (networkText (drop at (now (bytes .entry)))) ⌝ }
+    ensures { λ r. ⌜ r ≡ networkMeant relation (sideIs side) (networkRead (drop at (now (bytes .entry)))) ⌝ }
 {
     let Number::Read {
         value: address,
@@ -331,21 +315,6 @@ fn network_operand(relation: Relation, bytes: &[u8]) -> Meant
     network_record(bytes, 0, relation, 0)
 }
 
-// Where the blanks at a place end.
-fn blanks_end(s: &[u8], at: usize) -> usize
-    requires { ⌜ at ≤ length (now s) ⌝ }
-    ensures { λ r. ⌜ BlanksEnd (now (s .entry)) at r ⌝ }
-{
-    let mut p = at;
-    while p < s.len() {
-        if !token::is_blank(s[p]) {
-            return p;
-        }
-        p += 1;
-    }
-    p
-}
-
 // The record of a peer with an address: alone, or with blanks and an AS number behind it.
 fn peer_behind(bytes: &[u8], at: usize, address: u32) -> Meant
     requires { ⌜ at ≤ length (now bytes) ⌝ }
@@ -357,7 +326,7 @@ fn peer_behind(bytes: &[u8], at: usize, address: u32) -> Meant
     if !token::is_blank(bytes[at]) {
         return Meant::Broken;
     }
-    let next = blanks_end(bytes, at + 1);
+    let next = token::blanks_end(bytes, at + 1);
     let Number::Read { value, end: _ } = numeral(bytes, next, 4294967296) else {
         return Meant::Broken;
     };
@@ -537,7 +506,7 @@ fn item_at(s: &[u8], at: usize) -> ItemRead
 
 // Counts the items from a place on, as far as they are parted by blanks.
 fn items_at(s: &[u8], at: usize) -> Items
-    requires { ⌜ (at ≤ length (now s)) × (length (now s) ≤ 4096) ⌝ }
+    requires { ⌜ (at ≤ length (now s)) × (length (now s) ≤ textLimit) ⌝ }
     ensures { λ r. ⌜ ItemsAt (now (s .entry)) at r ⌝ }
 {
     let mut count: u32 = 0;
@@ -548,7 +517,7 @@ fn items_at(s: &[u8], at: usize) -> Items
             return Items { count, end: next };
         };
         count += 1;
-        next = blanks_end(s, end);
+        next = token::blanks_end(s, end);
         if next == end {
             return Items { count, end: next };
         }
@@ -557,15 +526,15 @@ fn items_at(s: &[u8], at: usize) -> Items
 
 // The pattern of an operand: whether `^` and `$` stand and how many items.
 fn pattern(bytes: &[u8]) -> Meant
-    requires { ⌜ length (now bytes) ≤ 4096 ⌝ }
+    requires { ⌜ length (now bytes) ≤ textLimit ⌝ }
     ensures { λ r. ⌜ r ≡ meantOf (meaning Name.Path (now (bytes .entry))) ⌝ }
 {
-    let start = blanks_end(bytes, 0);
+    let start = token::blanks_end(bytes, 0);
     let caret = optional_end(bytes, start, b'^');
-    let items = items_at(bytes, blanks_end(bytes, caret));
+    let items = items_at(bytes, token::blanks_end(bytes, caret));
     let end = items.end;
     let dollar = optional_end(bytes, end, b'$');
-    if blanks_end(bytes, dollar) != bytes.len() {
+    if token::blanks_end(bytes, dollar) != bytes.len() {
         return Meant::Broken;
     }
     let variant = (caret - start) as u32 + 2 * ((dollar - end) as u32);
@@ -629,18 +598,18 @@ pub fn meaning(name: Name, bytes: &[u8]) -> Meant
 
 // Writes the records of the items of a pattern, one after another, and answers the place after them.
 pub fn put_items(bytes: &[u8], out: &mut [u8], at: usize) -> usize
-    ensures { λ r. ⌜ Written (now (out .entry)) at (encodeAll (map item (itemsIn (now (bytes .entry))))) (now (out .exit)) r ⌝ }
+    ensures { λ r. ⌜ Written (now (out .entry)) at (encodeAll (map item (itemsAtFront (now (bytes .entry))))) (now (out .exit)) r ⌝ }
 {
     let mut place = at;
-    let start = blanks_end(bytes, 0);
-    let mut p = blanks_end(bytes, optional_end(bytes, start, b'^'));
+    let start = token::blanks_end(bytes, 0);
+    let mut p = token::blanks_end(bytes, optional_end(bytes, start, b'^'));
     loop {
         let read = item_at(bytes, p);
         let ItemRead::Read { item, end } = read else {
             return place;
         };
         place = program::put_record(out, place, item_fields(item));
-        p = blanks_end(bytes, end);
+        p = token::blanks_end(bytes, end);
         if p == end {
             return place;
         }

@@ -18,8 +18,9 @@ use Rattle.token.specs.Next.{run}
 use Rattle.operand.specs.Fronts.{after, optional, cut}
 use Rattle.token.specs.Next.{isBlank}
 use Rattle.operand.specs.Decimals.{isDigit, numberOn, number, numeral}
-use Rattle.operand.specs.Codes.{same, found}
-use Rattle.operand.specs.Addresses.{part, addressRead, networkText, networkOperand}
+use Rattle.octets.specs.Equal.{same}
+use Rattle.operand.specs.Tables.{found}
+use Rattle.operand.specs.Addresses.{partRead, addressRead, networkRead, networkOperand}
 use Rattle.operand.specs.Peers.{peerOperand}
 use Rattle.operand.specs.Patterns.{itemRead, itemsRead, patternOperand}
 use Rattle.operand.specs.Tests.{meaning}
@@ -43,7 +44,7 @@ use Rattle.pairs.proofs.RecordR.{record-represents}
 unfoldable pub answerFor : List ℕ → Reading → Outcome
 unfolding
     answer run lex sort bare read vocabulary roleOf found same meaning
-    patternOperand itemsRead itemRead peerOperand addressRead networkOperand networkText part
+    patternOperand itemsRead itemRead peerOperand addressRead networkOperand networkRead partRead
     numeral number numberOn isDigit optional after cut isBlank cleared placeOf startOf numberOf weight itemCount
 answerFor text r = answer text (recordSize * weight r)
 

@@ -32,11 +32,6 @@ lexed-closed {text} {at} h e = record { here = h; lexed = lex-sound (e ∙ ap to
 pub closed-start : {text : List ℕ} {ts : List Placed} → Lexes 0 text ts → Closed text 0
 closed-start d = lexed-closed (omega arith) (lex-complete d)
 
--- these are the tokens that are left there
-pub left-start : {text : List ℕ} {ts : List Placed} → Lexes 0 text ts → left text 0 ≡ ts
-unfolding tokensOf
-left-start d = ap tokensOf (lex-complete d)
-
 -- ---- the next lexeme
 
 -- the token of a lexeme, by its kind

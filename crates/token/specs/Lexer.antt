@@ -5,7 +5,7 @@ use lib.Dec.{eqb}
 use Rattle.octets.specs.Choice.{pick}
 use Rattle.token.specs.Tokens.{Word, Token, open′, close, bang, word, quoted, Placed, placed}
 
--- ---- what the code computes
+-- ---- the tokens of bytes as a function: `unclosed` and `compile` are equal to it; the code goes by places (Next)
 
 -- the sorts of bytes outside quotes
 pub data Sort : Type 0 where

@@ -9,6 +9,7 @@ use Rattle.token.specs.Texts.{Blank, Every}
 abbrev pub Word : Type 0
 Word = List ℕ
 
+-- a token: `(`, `)`, `!`, a word or a quoted token
 pub data Token : Type 0 where
   open′ close bang : Token
   word quoted : Word → Token
@@ -39,6 +40,7 @@ pub record Placed : Type 0 where
   pub place : ℕ
   pub token : Token
 
+-- a token at a place
 abbrev pub placed : ℕ → Token → Placed
 placed n t = record { place = n; token = t }
 

@@ -1,4 +1,4 @@
-// Tokens of a text: the next one from a place on, its bytes, the first forbidden byte and the quote that isn't closed.
+// Tokens of a text: the next one from a place on, its bytes, where blanks end, the first forbidden byte and the quote that isn't closed.
 ghost use mathlib.Core.Path.{_≡_};
 ghost use Prim.Native.Nat.{_+_, _-_, _<_};
 ghost use lib.ListN.{length};
@@ -103,6 +103,13 @@ fn run_end(text: &[u8], at: usize, run: Run) -> usize
     i
 }
 
+// Where the blanks from a place on end.
+pub fn blanks_end(text: &[u8], at: usize) -> usize
+    ensures { λ r. ⌜ r ≡ runEnd isBlank (now (text .entry)) at ⌝ }
+{
+    run_end(text, at, Run::Blanks)
+}
+
 fn span(kind: Kind, start: usize, end: usize) -> Lexeme
     ensures { λ r. ⌜ r ≡ lexeme kind start end ⌝ }
 {
@@ -150,7 +157,7 @@ fn begins(text: &[u8], start: usize) -> Lexeme
 pub fn next(text: &[u8], at: usize) -> Lexeme
     ensures { λ r. ⌜ r ≡ nextAt (now (text .entry)) at ⌝ }
 {
-    let start = run_end(text, at, Run::Blanks);
+    let start = blanks_end(text, at);
     begins(text, start)
 }
 

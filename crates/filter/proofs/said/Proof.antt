@@ -3,7 +3,8 @@ use native.Mathlib.Omega.{arith}
 use mathlib.Core.Path.{sym, _∙_}
 use borrow.Author.Needs.{needs}
 use Rattle.filter.specs.Words.{vocabulary, roleOf}
-use Rattle.filter.proofs.Roles.{row-found, words-differ, none-missed, one-missed, missed-found}
+use Rattle.operand.proofs.Finding.{row-found, none-missed, one-missed, missed-found}
+use Rattle.filter.proofs.Roles.{past, words-differ}
 use Rattle.filter.proofs.said.Statement.{statement}
 use Rattle.filter.proofs.said.Tie as tie
 
@@ -15,7 +16,7 @@ same-requires c κs = search needs
 
 returns : tie.Need-returns
 unfolding vocabulary roleOf
-returns c = sym (row-found vocabulary words-differ 0 (c .before .before .before .before .args .word .now) (omega arith) (c .before .same .ensures) (c .if1 .taken))
+returns c = sym (row-found vocabulary past words-differ 0 (c .before .before .before .before .args .word .now) (omega arith) (c .before .same .ensures) (c .if1 .taken))
 
 slice-aggregate-same-2 : tie.Need-slice-aggregate-same-2
 slice-aggregate-same-2 c = search needs
@@ -25,7 +26,7 @@ same-requires-2 c κs = search needs
 
 returns-2 : tie.Need-returns-2
 unfolding vocabulary roleOf
-returns-2 c = sym (row-found vocabulary words-differ 1 (c .before .before .before .before .before .before .before .args .word .now) (omega arith) (c .before .same2 .ensures) (c .if2 .taken))
+returns-2 c = sym (row-found vocabulary past words-differ 1 (c .before .before .before .before .before .before .before .args .word .now) (omega arith) (c .before .same2 .ensures) (c .if2 .taken))
 
 slice-aggregate-same-3 : tie.Need-slice-aggregate-same-3
 slice-aggregate-same-3 c = search needs
@@ -35,7 +36,7 @@ same-requires-3 c κs = search needs
 
 returns-3 : tie.Need-returns-3
 unfolding vocabulary roleOf
-returns-3 c = sym (row-found vocabulary words-differ 2 (c .before .before .before .before .before .before .before .before .before .before .args .word .now) (omega arith) (c .before .same3 .ensures) (c .if3 .taken))
+returns-3 c = sym (row-found vocabulary past words-differ 2 (c .before .before .before .before .before .before .before .before .before .before .args .word .now) (omega arith) (c .before .same3 .ensures) (c .if3 .taken))
 
 slice-aggregate-same-4 : tie.Need-slice-aggregate-same-4
 slice-aggregate-same-4 c = search needs
@@ -45,7 +46,7 @@ same-requires-4 c κs = search needs
 
 returns-4 : tie.Need-returns-4
 unfolding vocabulary roleOf
-returns-4 c = sym (row-found vocabulary words-differ 3 (c .before .before .before .before .before .before .before .before .before .before .before .before .before .args .word .now) (omega arith) (c .before .same4 .ensures) (c .if4 .taken))
+returns-4 c = sym (row-found vocabulary past words-differ 3 (c .before .before .before .before .before .before .before .before .before .before .before .before .before .args .word .now) (omega arith) (c .before .same4 .ensures) (c .if4 .taken))
 
 test-name-requires : tie.Need-test-name-requires
 test-name-requires c κs = search needs

@@ -3,10 +3,11 @@ use native.Mathlib.Omega.{arith}
 use mathlib.Core.Path.{sym}
 use mathlib.Core.List.{[]}
 use borrow.Author.Needs.{needs}
-use Rattle.operand.specs.Codes.{found}
+use Rattle.operand.specs.Tables.{found}
 use Rattle.filter.specs.Words.{vocabulary}
 use Rattle.filter.specs.Parsing.{operandRows}
-use Rattle.filter.proofs.Roles.{row-found, names-differ, none-missed, one-missed, missed-found}
+use Rattle.operand.proofs.Finding.{row-found, none-missed, one-missed, missed-found}
+use Rattle.filter.proofs.Roles.{past, names-differ}
 use Rattle.filter.proofs.test_name.Statement.{statement}
 use Rattle.filter.proofs.test_name.Tie as tie
 
@@ -18,7 +19,7 @@ same-requires c κs = search needs
 
 returns : tie.Need-returns
 unfolding vocabulary
-returns c = sym (row-found operandRows names-differ 0 (c .before .before .before .before .args .word .now) (omega arith) (c .before .same .ensures) (c .if1 .taken))
+returns c = sym (row-found operandRows past names-differ 0 (c .before .before .before .before .args .word .now) (omega arith) (c .before .same .ensures) (c .if1 .taken))
 
 slice-aggregate-same-2 : tie.Need-slice-aggregate-same-2
 slice-aggregate-same-2 c = search needs
@@ -28,7 +29,7 @@ same-requires-2 c κs = search needs
 
 returns-2 : tie.Need-returns-2
 unfolding vocabulary
-returns-2 c = sym (row-found operandRows names-differ 1 (c .before .before .before .before .before .before .before .args .word .now) (omega arith) (c .before .same2 .ensures) (c .if2 .taken))
+returns-2 c = sym (row-found operandRows past names-differ 1 (c .before .before .before .before .before .before .before .args .word .now) (omega arith) (c .before .same2 .ensures) (c .if2 .taken))
 
 slice-aggregate-same-3 : tie.Need-slice-aggregate-same-3
 slice-aggregate-same-3 c = search needs
@@ -38,7 +39,7 @@ same-requires-3 c κs = search needs
 
 returns-3 : tie.Need-returns-3
 unfolding vocabulary
-returns-3 c = sym (row-found operandRows names-differ 2 (c .before .before .before .before .before .before .before .before .before .before .args .word .now) (omega arith) (c .before .same3 .ensures) (c .if3 .taken))
+returns-3 c = sym (row-found operandRows past names-differ 2 (c .before .before .before .before .before .before .before .before .before .before .args .word .now) (omega arith) (c .before .same3 .ensures) (c .if3 .taken))
 
 slice-aggregate-same-4 : tie.Need-slice-aggregate-same-4
 slice-aggregate-same-4 c = search needs
@@ -48,7 +49,7 @@ same-requires-4 c κs = search needs
 
 returns-4 : tie.Need-returns-4
 unfolding vocabulary
-returns-4 c = sym (row-found operandRows names-differ 3 (c .before .before .before .before .before .before .before .before .before .before .before .before .before .args .word .now) (omega arith) (c .before .same4 .ensures) (c .if4 .taken))
+returns-4 c = sym (row-found operandRows past names-differ 3 (c .before .before .before .before .before .before .before .before .before .before .before .before .before .args .word .now) (omega arith) (c .before .same4 .ensures) (c .if4 .taken))
 
 slice-aggregate-same-5 : tie.Need-slice-aggregate-same-5
 slice-aggregate-same-5 c = search needs
@@ -58,7 +59,7 @@ same-requires-5 c κs = search needs
 
 returns-5 : tie.Need-returns-5
 unfolding vocabulary
-returns-5 c = sym (row-found operandRows names-differ 4 (c .before .before .before .before .before .before .before .before .before .before .before .before .before .before .before .before .args .word .now) (omega arith) (c .before .same5 .ensures) (c .if5 .taken))
+returns-5 c = sym (row-found operandRows past names-differ 4 (c .before .before .before .before .before .before .before .before .before .before .before .before .before .before .before .before .args .word .now) (omega arith) (c .before .same5 .ensures) (c .if5 .taken))
 
 slice-aggregate-same-6 : tie.Need-slice-aggregate-same-6
 slice-aggregate-same-6 c = search needs
@@ -68,7 +69,7 @@ same-requires-6 c κs = search needs
 
 returns-6 : tie.Need-returns-6
 unfolding vocabulary
-returns-6 c = sym (row-found operandRows names-differ 5 (c .before .before .before .before .before .before .before .before .before .before .before .before .before .before .before .before .before .before .before .args .word .now) (omega arith) (c .before .same6 .ensures) (c .if6 .taken))
+returns-6 c = sym (row-found operandRows past names-differ 5 (c .before .before .before .before .before .before .before .before .before .before .before .before .before .before .before .before .before .before .before .args .word .now) (omega arith) (c .before .same6 .ensures) (c .if6 .taken))
 
 slice-aggregate-same-7 : tie.Need-slice-aggregate-same-7
 slice-aggregate-same-7 c = search needs
@@ -78,7 +79,7 @@ same-requires-7 c κs = search needs
 
 returns-7 : tie.Need-returns-7
 unfolding vocabulary
-returns-7 c = sym (row-found operandRows names-differ 6 (c .before .before .before .before .before .before .before .before .before .before .before .before .before .before .before .before .before .before .before .before .before .before .args .word .now) (omega arith) (c .before .same7 .ensures) (c .if7 .taken))
+returns-7 c = sym (row-found operandRows past names-differ 6 (c .before .before .before .before .before .before .before .before .before .before .before .before .before .before .before .before .before .before .before .before .before .before .args .word .now) (omega arith) (c .before .same7 .ensures) (c .if7 .taken))
 
 slice-aggregate-same-8 : tie.Need-slice-aggregate-same-8
 slice-aggregate-same-8 c = search needs
@@ -88,7 +89,7 @@ same-requires-8 c κs = search needs
 
 returns-8 : tie.Need-returns-8
 unfolding vocabulary
-returns-8 c = sym (row-found operandRows names-differ 7 (c .before .before .before .before .before .before .before .before .before .before .before .before .before .before .before .before .before .before .before .before .before .before .before .before .before .args .word .now) (omega arith) (c .before .same8 .ensures) (c .if8 .taken))
+returns-8 c = sym (row-found operandRows past names-differ 7 (c .before .before .before .before .before .before .before .before .before .before .before .before .before .before .before .before .before .before .before .before .before .before .before .before .before .args .word .now) (omega arith) (c .before .same8 .ensures) (c .if8 .taken))
 
 slice-aggregate-same-9 : tie.Need-slice-aggregate-same-9
 slice-aggregate-same-9 c = search needs
@@ -98,7 +99,7 @@ same-requires-9 c κs = search needs
 
 returns-9 : tie.Need-returns-9
 unfolding vocabulary
-returns-9 c = sym (row-found operandRows names-differ 8 (c .before .before .before .before .before .before .before .before .before .before .before .before .before .before .before .before .before .before .before .before .before .before .before .before .before .before .before .before .args .word .now) (omega arith) (c .before .same9 .ensures) (c .if9 .taken))
+returns-9 c = sym (row-found operandRows past names-differ 8 (c .before .before .before .before .before .before .before .before .before .before .before .before .before .before .before .before .before .before .before .before .before .before .before .before .before .before .before .before .args .word .now) (omega arith) (c .before .same9 .ensures) (c .if9 .taken))
 
 returns-10 : tie.Need-returns-10
 unfolding vocabulary found

@@ -76,22 +76,22 @@ returns-4 c = let a = c .before .before .before .before .before .before .before 
     ))
 
 mul-t15 : tie.Need-mul-t15
-mul-t15 c = omega (arith, c .before .before .before .before .before .before .before .before .before .before .before .before .before .before .before .part .ensures .ends _ _ (c .before .before .before .before .before .before .before .before .before .before .before .before .before .a .given .1) .1, c .before .before .before .before .before .before .before .before .before .before .before .part2 .ensures .ends _ _ (c .before .before .before .before .before .before .before .before .before .b .given .1) .1, c .before .before .before .before .before .before .before .part3 .ensures .ends _ _ (c .before .before .before .before .before .c .given .1) .1, c .before .before .before .number-at .ensures .ends _ _ (c .before .d .given .1) .2)
+mul-t15 c = omega (arith, c .before .before .before .before .before .before .before .before .before .before .before .before .before .before .before .part .ensures .ends _ _ (c .before .before .before .before .before .before .before .before .before .before .before .before .before .a .given .1) .1, c .before .before .before .before .before .before .before .before .before .before .before .part2 .ensures .ends _ _ (c .before .before .before .before .before .before .before .before .before .b .given .1) .1, c .before .before .before .before .before .before .before .part3 .ensures .ends _ _ (c .before .before .before .before .before .c .given .1) .1, c .before .before .before .number-at .ensures .ends _ _ (c .before .d .given .1) .1)
 
 add-t16 : tie.Need-add-t16
-add-t16 c = omega (arith, c .before .before .before .before .before .before .before .before .before .before .before .before .before .before .before .part .ensures .ends _ _ (c .before .before .before .before .before .before .before .before .before .before .before .before .before .a .given .1) .1, c .before .before .before .before .before .before .before .before .before .before .before .part2 .ensures .ends _ _ (c .before .before .before .before .before .before .before .before .before .b .given .1) .1, c .before .before .before .before .before .before .before .part3 .ensures .ends _ _ (c .before .before .before .before .before .c .given .1) .1, c .before .before .before .number-at .ensures .ends _ _ (c .before .d .given .1) .2)
+add-t16 c = omega (arith, c .before .before .before .before .before .before .before .before .before .before .before .before .before .before .before .part .ensures .ends _ _ (c .before .before .before .before .before .before .before .before .before .before .before .before .before .a .given .1) .1, c .before .before .before .before .before .before .before .before .before .before .before .part2 .ensures .ends _ _ (c .before .before .before .before .before .before .before .before .before .b .given .1) .1, c .before .before .before .before .before .before .before .part3 .ensures .ends _ _ (c .before .before .before .before .before .c .given .1) .1, c .before .before .before .number-at .ensures .ends _ _ (c .before .d .given .1) .1)
 
 mul-t17 : tie.Need-mul-t17
-mul-t17 c = omega (arith, c .before .before .before .before .before .before .before .before .before .before .before .before .before .before .before .part .ensures .ends _ _ (c .before .before .before .before .before .before .before .before .before .before .before .before .before .a .given .1) .1, c .before .before .before .before .before .before .before .before .before .before .before .part2 .ensures .ends _ _ (c .before .before .before .before .before .before .before .before .before .b .given .1) .1, c .before .before .before .before .before .before .before .part3 .ensures .ends _ _ (c .before .before .before .before .before .c .given .1) .1, c .before .before .before .number-at .ensures .ends _ _ (c .before .d .given .1) .2)
+mul-t17 c = omega (arith, c .before .before .before .before .before .before .before .before .before .before .before .before .before .before .before .part .ensures .ends _ _ (c .before .before .before .before .before .before .before .before .before .before .before .before .before .a .given .1) .1, c .before .before .before .before .before .before .before .before .before .before .before .part2 .ensures .ends _ _ (c .before .before .before .before .before .before .before .before .before .b .given .1) .1, c .before .before .before .before .before .before .before .part3 .ensures .ends _ _ (c .before .before .before .before .before .c .given .1) .1, c .before .before .before .number-at .ensures .ends _ _ (c .before .d .given .1) .1)
 
 add-t18 : tie.Need-add-t18
-add-t18 c = omega (arith, c .before .before .before .before .before .before .before .before .before .before .before .before .before .before .before .part .ensures .ends _ _ (c .before .before .before .before .before .before .before .before .before .before .before .before .before .a .given .1) .1, c .before .before .before .before .before .before .before .before .before .before .before .part2 .ensures .ends _ _ (c .before .before .before .before .before .before .before .before .before .b .given .1) .1, c .before .before .before .before .before .before .before .part3 .ensures .ends _ _ (c .before .before .before .before .before .c .given .1) .1, c .before .before .before .number-at .ensures .ends _ _ (c .before .d .given .1) .2)
+add-t18 c = omega (arith, c .before .before .before .before .before .before .before .before .before .before .before .before .before .before .before .part .ensures .ends _ _ (c .before .before .before .before .before .before .before .before .before .before .before .before .before .a .given .1) .1, c .before .before .before .before .before .before .before .before .before .before .before .part2 .ensures .ends _ _ (c .before .before .before .before .before .before .before .before .before .b .given .1) .1, c .before .before .before .before .before .before .before .part3 .ensures .ends _ _ (c .before .before .before .before .before .c .given .1) .1, c .before .before .before .number-at .ensures .ends _ _ (c .before .d .given .1) .1)
 
 mul-t19 : tie.Need-mul-t19
-mul-t19 c = omega (arith, c .before .before .before .before .before .before .before .before .before .before .before .before .before .before .before .part .ensures .ends _ _ (c .before .before .before .before .before .before .before .before .before .before .before .before .before .a .given .1) .1, c .before .before .before .before .before .before .before .before .before .before .before .part2 .ensures .ends _ _ (c .before .before .before .before .before .before .before .before .before .b .given .1) .1, c .before .before .before .before .before .before .before .part3 .ensures .ends _ _ (c .before .before .before .before .before .c .given .1) .1, c .before .before .before .number-at .ensures .ends _ _ (c .before .d .given .1) .2)
+mul-t19 c = omega (arith, c .before .before .before .before .before .before .before .before .before .before .before .before .before .before .before .part .ensures .ends _ _ (c .before .before .before .before .before .before .before .before .before .before .before .before .before .a .given .1) .1, c .before .before .before .before .before .before .before .before .before .before .before .part2 .ensures .ends _ _ (c .before .before .before .before .before .before .before .before .before .b .given .1) .1, c .before .before .before .before .before .before .before .part3 .ensures .ends _ _ (c .before .before .before .before .before .c .given .1) .1, c .before .before .before .number-at .ensures .ends _ _ (c .before .d .given .1) .1)
 
 add-t20 : tie.Need-add-t20
-add-t20 c = omega (arith, c .before .before .before .before .before .before .before .before .before .before .before .before .before .before .before .part .ensures .ends _ _ (c .before .before .before .before .before .before .before .before .before .before .before .before .before .a .given .1) .1, c .before .before .before .before .before .before .before .before .before .before .before .part2 .ensures .ends _ _ (c .before .before .before .before .before .before .before .before .before .b .given .1) .1, c .before .before .before .before .before .before .before .part3 .ensures .ends _ _ (c .before .before .before .before .before .c .given .1) .1, c .before .before .before .number-at .ensures .ends _ _ (c .before .d .given .1) .2)
+add-t20 c = omega (arith, c .before .before .before .before .before .before .before .before .before .before .before .before .before .before .before .part .ensures .ends _ _ (c .before .before .before .before .before .before .before .before .before .before .before .before .before .a .given .1) .1, c .before .before .before .before .before .before .before .before .before .before .before .part2 .ensures .ends _ _ (c .before .before .before .before .before .before .before .before .before .b .given .1) .1, c .before .before .before .before .before .before .before .part3 .ensures .ends _ _ (c .before .before .before .before .before .c .given .1) .1, c .before .before .before .number-at .ensures .ends _ _ (c .before .d .given .1) .1)
 
 returns-5 : tie.Need-returns-5
 unfolding addressRead
@@ -104,7 +104,7 @@ returns-5 c = let a = c .before .before .before .before .before .before .before 
       said-some s (c .before .before .before .before .before .before .before .part3 .ensures .said) (c .before .before .before .before .before .c .given .1),
       said-some s (c .before .before .before .number-at .ensures .said) (c .before .d .given .1),
     ))
-    (c .before .before .before .number-at .ensures .ends _ _ (c .before .d .given .1) .1) (omega (arith, c .before .before .before .before .before .before .before .before .before .before .before .before .before .before .before .part .ensures .ends _ _ (c .before .before .before .before .before .before .before .before .before .before .before .before .before .a .given .1) .1, c .before .before .before .before .before .before .before .before .before .before .before .part2 .ensures .ends _ _ (c .before .before .before .before .before .before .before .before .before .b .given .1) .1, c .before .before .before .before .before .before .before .part3 .ensures .ends _ _ (c .before .before .before .before .before .c .given .1) .1, c .before .before .before .number-at .ensures .ends _ _ (c .before .d .given .1) .2))
+    (c .before .before .before .number-at .ensures .ends _ _ (c .before .d .given .1) .0) (omega (arith, c .before .before .before .before .before .before .before .before .before .before .before .before .before .before .before .part .ensures .ends _ _ (c .before .before .before .before .before .before .before .before .before .before .before .before .before .a .given .1) .1, c .before .before .before .before .before .before .before .before .before .before .before .part2 .ensures .ends _ _ (c .before .before .before .before .before .before .before .before .before .b .given .1) .1, c .before .before .before .before .before .before .before .part3 .ensures .ends _ _ (c .before .before .before .before .before .c .given .1) .1, c .before .before .before .number-at .ensures .ends _ _ (c .before .d .given .1) .1))
 
 pub address-spec : {M : Type 1} → statement M
 address-spec =

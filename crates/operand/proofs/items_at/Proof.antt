@@ -33,7 +33,7 @@ add-count : tie.Need-add-count Inv-loop μ-loop
 add-count c = omega arith
 
 blanks-end-requires : tie.Need-blanks-end-requires Inv-loop μ-loop
-blanks-end-requires c κs = c .before .before .before .item-at .ensures .ends _ _ (c .before .read .given .1) .1
+blanks-end-requires c κs = search needs
 
 returns-2 : tie.Need-returns-2 Inv-loop μ-loop
 returns-2 c =
@@ -41,7 +41,7 @@ returns-2 c =
     (c .before .blanks-end .ensures) (c .if1 .taken)
 
 loop-less : tie.Need-loop-less Inv-loop μ-loop
-loop-less c = omega (arith, c .before .before .before .before .before .item-at .ensures .ends _ _ (c .before .before .before .read .given .1), c .before .blanks-end .ensures .low)
+loop-less c = omega (arith, c .before .before .before .before .before .item-at .ensures .ends _ _ (c .before .before .before .read .given .1))
 
 loop-again : tie.Need-loop-again Inv-loop μ-loop
 loop-again c =

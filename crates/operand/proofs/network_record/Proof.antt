@@ -6,7 +6,7 @@ use Rattle.network.specs.Networks.{masked}
 use Rattle.program.specs.Layout.{fieldsOf}
 use Rattle.program.specs.Compiling.{headOf}
 use Rattle.program.proofs.Codes.{side-code}
-use Rattle.operand.specs.Addresses.{networkText}
+use Rattle.operand.specs.Addresses.{networkRead}
 use Rattle.operand.proofs.Places.{after-here, after-other, after-end}
 use Rattle.operand.proofs.Numbers.{said-none, said-some, value-none, value-some}
 use Rattle.operand.proofs.network_record.Statement.{statement}
@@ -22,12 +22,12 @@ enum-told : tie.Need-enum-told
 enum-told c = search needs
 
 returns : tie.Need-returns
-unfolding networkText
+unfolding networkRead
 returns c = let s = now (c .before .before .before .before .args .bytes) in
     rw (said-none s (c .before .before .address .ensures .said) (c .enum-told .given .1))
 
 returns-2 : tie.Need-returns-2
-unfolding networkText
+unfolding networkRead
 returns-2 c = let s = now (c .before .before .before .before .before .before .args .bytes) in
     let g = c .before .before .address2 .given in
     rw (said-some s (c .before .before .before .before .address .ensures .said) (g .1), after-end s (g .0 .1 .0) 47 (c .if1 .taken))
@@ -36,7 +36,7 @@ shared-slice-read-if2 : tie.Need-shared-slice-read-if2
 shared-slice-read-if2 c = search needs
 
 returns-3 : tie.Need-returns-3
-unfolding networkText
+unfolding networkRead
 returns-3 c = let s = now (c .before .before .before .before .before .before .before .before .args .bytes) in
     let g = c .before .before .before .before .address2 .given in
     rw (said-some s (c .before .before .before .before .before .before .address .ensures .said) (g .1), after-other s (g .0 .1 .0) 47 (c .before .before .if1 .left) (c .if2 .taken))
@@ -54,7 +54,7 @@ enum-told-2 : tie.Need-enum-told-2
 enum-told-2 c = search needs
 
 returns-4 : tie.Need-returns-4
-unfolding networkText
+unfolding networkRead
 returns-4 c = let s = now (c .before .before .before .before .before .before .before .before .before .before .before .args .bytes) in
     let g = c .before .before .before .before .before .before .before .address2 .given in
     rw (
@@ -73,7 +73,7 @@ head-requires : tie.Need-head-requires
 head-requires c κs = search needs
 
 returns-5 : tie.Need-returns-5
-unfolding networkText fieldsOf headOf
+unfolding networkRead fieldsOf headOf
 returns-5 c = let s = now (c .before .before .before .before .before .before .before .before .before .before .before .before .before .before .before .args .bytes) in
     let g = c .before .before .before .before .before .before .before .before .before .before .before .address2 .given in
     let n : c .before .before .network-of .result ≡ masked 32 (g .0 .0) (c .before .before .before .before .len .given .0 .0) = c .before .before .network-of .ensures in

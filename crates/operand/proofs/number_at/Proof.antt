@@ -13,7 +13,7 @@ use Rattle.octets.proofs.Choices.{second}
 use Rattle.operand.specs.Decimals.{isDigit, numberOn, number}
 use Rattle.operand.proofs.Decimals.{digit-of}
 use Rattle.operand.proofs.Places.{stops-here, stops-end}
-use Rattle.operand.proofs.Numbers.{numbered-none, numbered-stop, zero-at, over-at, taken-at}
+use Rattle.operand.proofs.Numbers.{read-none, number-ends, zero-at, over-at, taken-at}
 use Rattle.operand.proofs.number_at.Statement.{statement}
 use Rattle.operand.proofs.number_at.Tie as tie
 
@@ -46,14 +46,14 @@ returns : tie.Need-returns Inv-loop μ-loop
 returns c = let a = c .before .before .before .before .before .before .before .args in
     let l = c .before .before .before .before .before .loop in
     let n : isDigit _ ≡ false = sym (c .before .before .is-digit .ensures) ∙ not-true _ (c .before .if1 .taken) in
-    numbered-stop (now (a .s)) (a .at) (a .limit) (l .end) (l .n) (l .inv .4) (stops-here (now (a .s)) (l .end) isDigit (omega arith) n) (omega arith) (l .inv .3) (c .number-between .ensures)
+    number-ends (now (a .s)) (a .at) (a .limit) (l .end) (l .n) (l .inv .4) (stops-here (now (a .s)) (l .end) isDigit (omega arith) n) (omega arith) (l .inv .3) (c .number-between .ensures)
 
 returns-2 : tie.Need-returns-2 Inv-loop μ-loop
 returns-2 c = let a = c .before .before .before .before .before .before .before .before .args in
     let l = c .before .before .before .before .before .before .loop in
     let y : isDigit _ ≡ true = sym (c .before .before .before .is-digit .ensures) ∙ not-false _ (c .before .before .if1 .left) in
     let z : pick (leb (l .end) (a .at)) true (leb 1 (l .n)) ≡ false = rw (lt-leb (l .end) (a .at) (c .before .if2 .taken), c .if3 .taken) in
-    numbered-none (now (a .s)) (a .at) (a .limit) (sym (l .inv .4) ∙ zero-at (now (a .s)) (a .limit) (leb (l .end) (a .at)) (l .n) (l .end) (omega arith) y z)
+    read-none (number (a .limit)) (now (a .s)) (a .at) (a .limit) (sym (l .inv .4) ∙ zero-at (now (a .s)) (a .limit) (leb (l .end) (a .at)) (l .n) (l .end) (omega arith) y z)
 
 mul-n : tie.Need-mul-n Inv-loop μ-loop
 mul-n c = omega arith
@@ -74,7 +74,7 @@ returns-3 : tie.Need-returns-3 Inv-loop μ-loop
 returns-3 c = let a = c .before .before .before .before .before .before .before .before .args in
     let l = c .before .before .before .before .before .before .loop in
     let y : isDigit _ ≡ true = sym (c .before .before .before .is-digit .ensures) ∙ not-false _ (c .before .before .if1 .left) in
-    numbered-none (now (a .s)) (a .at) (a .limit) (sym (l .inv .4) ∙ over-at (now (a .s)) (a .limit) (leb (l .end) (a .at)) (l .n) (l .end) (omega arith) y (c .if4 .taken))
+    read-none (number (a .limit)) (now (a .s)) (a .at) (a .limit) (sym (l .inv .4) ∙ over-at (now (a .s)) (a .limit) (leb (l .end) (a .at)) (l .n) (l .end) (omega arith) y (c .if4 .taken))
 
 add-end : tie.Need-add-end Inv-loop μ-loop
 add-end c = omega arith
@@ -99,7 +99,7 @@ number-between-requires-2 c κs = tt
 returns-4 : tie.Need-returns-4 Inv-loop μ-loop
 returns-4 c = let a = c .before .before .before .before .args in
     let l = c .before .before .loop in
-    numbered-stop (now (a .s)) (a .at) (a .limit) (l .end) (l .n) (l .inv .4) (stops-end (now (a .s)) (l .end) isDigit (omega arith)) (omega arith) (l .inv .3) (c .number-between2 .ensures)
+    number-ends (now (a .s)) (a .at) (a .limit) (l .end) (l .n) (l .inv .4) (stops-end (now (a .s)) (l .end) isDigit (omega arith)) (omega arith) (l .inv .3) (c .number-between2 .ensures)
 
 pub number-at-spec : {M : Type 1} → statement M
 number-at-spec =

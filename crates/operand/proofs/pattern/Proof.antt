@@ -1,5 +1,7 @@
 -- `operand::pattern` meets its contract, by the places where the parts of a pattern end. Assumes nothing.
+use native.Mathlib.Omega.{arith}
 use borrow.Author.Needs.{needs}
+use Rattle.operand.proofs.Blanks.{blanks-within}
 use Rattle.operand.proofs.PatternMeant.{broken-behind, broken-empty, pattern-here}
 use Rattle.operand.proofs.pattern.Statement.{statement}
 use Rattle.operand.proofs.pattern.Tie as tie
@@ -8,13 +10,13 @@ blanks-end-requires : tie.Need-blanks-end-requires
 blanks-end-requires c κs = search needs
 
 optional-end-requires : tie.Need-optional-end-requires
-optional-end-requires c κs = search needs
+optional-end-requires c κs = blanks-within _ 0 (c .blanks-end .ensures) (omega arith)
 
 blanks-end-requires-2 : tie.Need-blanks-end-requires-2
 blanks-end-requires-2 c κs = search needs
 
 items-at-requires : tie.Need-items-at-requires
-items-at-requires c κs = search needs
+items-at-requires c κs = (blanks-within _ _ (c .blanks-end2 .ensures) (c .before .optional-end .ensures .high), omega arith)
 
 optional-end-requires-2 : tie.Need-optional-end-requires-2
 optional-end-requires-2 c κs = search needs

@@ -1,4 +1,5 @@
 -- `operand::peer_behind` meets its contract: nothing, or blanks and a number. Assumes nothing.
+use native.Mathlib.Omega.{arith}
 use borrow.Author.Needs.{needs}
 use Prim.Native.Nat.{_+_, _<_}
 use native.Mathlib.Numerals.{add-one}
@@ -15,6 +16,7 @@ use Rattle.operand.specs.Fronts.{cut}
 use Rattle.token.specs.Next.{isBlank}
 use Rattle.operand.specs.Decimals.{numeral}
 use Rattle.operand.specs.Peers.{behindAddress}
+use Rattle.operand.proofs.Blanks.{blanks-left, blanks-within}
 use Rattle.operand.proofs.Numbers.{value-none, value-some}
 use Rattle.operand.proofs.peer_behind.Statement.{statement}
 use Rattle.operand.proofs.peer_behind.Tie as tie
@@ -49,7 +51,7 @@ blanks-end-requires : tie.Need-blanks-end-requires
 blanks-end-requires c κs = search needs
 
 numeral-requires : tie.Need-numeral-requires
-numeral-requires c κs = search needs
+numeral-requires c κs = (blanks-within _ _ (c .blanks-end .ensures) (search needs), omega arith)
 
 enum-known-value : tie.Need-enum-known-value
 enum-known-value c = search needs
@@ -63,7 +65,7 @@ returns-3 c = let a = c .before .before .before .before .before .before .before 
     let s = now (a .bytes) in
     let b : isBlank (getD s (a .at) 0) ≡ true = sym (c .before .before .before .before .before .is-blank .ensures) ∙ not-false _ (c .before .before .before .before .if2 .left) in
     let h : a .at < length s = c .before .before .before .before .before .before .before .if1 .left in
-    let e : numeral 4294967296 (cut isBlank (drop (a .at + 1) s) .rest) ≡ none = rw (← c .before .before .before .blanks-end .ensures .left) (value-none (c .before .before .numeral .ensures) (c .enum-told .given .1)) in
+    let e : numeral 4294967296 (cut isBlank (drop (a .at + 1) s) .rest) ≡ none = rw (← blanks-left s (a .at + 1) (c .before .before .before .blanks-end .ensures)) (value-none (c .before .before .numeral .ensures) (c .enum-told .given .1)) in
     rw (drop-cons s (a .at) 0, b, ← add-one (a .at), e)
 
 head-requires-2 : tie.Need-head-requires-2
@@ -76,7 +78,7 @@ returns-4 c = let a = c .before .before .before .before .before .before .before 
     let b : isBlank (getD s (a .at) 0) ≡ true = sym (c .before .before .before .before .before .before .before .is-blank .ensures) ∙ not-false _ (c .before .before .before .before .before .before .if2 .left) in
     let h : a .at < length s = c .before .before .before .before .before .before .before .before .before .if1 .left in
     let g = c .before .before .value .given in
-    let e : numeral 4294967296 (cut isBlank (drop (a .at + 1) s) .rest) ≡ some (g .0 .0) = rw (← c .before .before .before .before .before .blanks-end .ensures .left) (value-some (c .before .before .before .before .numeral .ensures) (g .1)) in
+    let e : numeral 4294967296 (cut isBlank (drop (a .at + 1) s) .rest) ≡ some (g .0 .0) = rw (← blanks-left s (a .at + 1) (c .before .before .before .before .before .blanks-end .ensures)) (value-some (c .before .before .before .before .numeral .ensures) (g .1)) in
     rw (c .head2 .ensures, drop-cons s (a .at) 0, b, ← add-one (a .at), e)
 
 pub peer-behind-spec : {M : Type 1} → statement M

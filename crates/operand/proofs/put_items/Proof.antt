@@ -5,6 +5,7 @@ use borrow.Author.Needs.{needs}
 use mathlib.Core.Path.{_∙_}
 use lib.ListN.{length}
 use Rattle.octets.proofs.Writes.{Midst, starts}
+use Rattle.operand.proofs.Blanks.{blanks-within}
 use Rattle.operand.proofs.PatternReads.{itemsText, written-none, written-last, written-next}
 use Rattle.operand.proofs.PatternMeant.{items-at}
 use Rattle.operand.proofs.put_items.Statement.{statement}
@@ -20,13 +21,13 @@ blanks-end-requires : tie.Need-blanks-end-requires Inv-loop μ-loop
 blanks-end-requires c κs = search needs
 
 optional-end-requires : tie.Need-optional-end-requires Inv-loop μ-loop
-optional-end-requires c κs = search needs
+optional-end-requires c κs = blanks-within _ 0 (c .blanks-end .ensures) (omega arith)
 
 blanks-end-requires-2 : tie.Need-blanks-end-requires-2 Inv-loop μ-loop
 blanks-end-requires-2 c κs = search needs
 
 loop-holds : tie.Need-loop-holds Inv-loop μ-loop
-loop-holds c = (c .blanks-end2 .ensures .high, starts _ _ _ (omega arith) (omega arith))
+loop-holds c = (blanks-within _ _ (c .blanks-end2 .ensures) (c .before .optional-end .ensures .high), starts _ _ _ (omega arith) (omega arith))
 
 item-at-requires : tie.Need-item-at-requires Inv-loop μ-loop
 item-at-requires c κs = c .loop .inv .0
@@ -52,7 +53,7 @@ put-record-requires : tie.Need-put-record-requires Inv-loop μ-loop
 put-record-requires c κs = search needs
 
 blanks-end-requires-3 : tie.Need-blanks-end-requires-3 Inv-loop μ-loop
-blanks-end-requires-3 c κs = c .before .before .before .before .before .before .before .before .item-at .ensures .ends _ _ (c .before .before .before .before .before .before .read .given .1) .1
+blanks-end-requires-3 c κs = search needs
 
 same-length-2 : tie.Need-same-length-2 Inv-loop μ-loop
 same-length-2 c = c .before .before .before .before .put-record .kept .0 ∙ c .before .before .before .before .before .before .before .before .before .before .before .loop .inv .1 .long
@@ -64,11 +65,11 @@ returns-2 c =
     (rw (c .before .before .before .before .before .item-fields .ensures) at (c .before .before .before .before .put-record .ensures)) (omega arith) (c .if1 .taken))
 
 loop-less : tie.Need-loop-less Inv-loop μ-loop
-loop-less c = omega (arith, c .before .before .before .before .before .before .before .before .before .before .item-at .ensures .ends _ _ (c .before .before .before .before .before .before .before .before .read .given .1), c .before .blanks-end3 .ensures .low)
+loop-less c = omega (arith, c .before .before .before .before .before .before .before .before .before .before .item-at .ensures .ends _ _ (c .before .before .before .before .before .before .before .before .read .given .1))
 
 loop-again : tie.Need-loop-again Inv-loop μ-loop
 loop-again c = (
-  c .before .blanks-end3 .ensures .high,
+  blanks-within _ _ (c .before .blanks-end3 .ensures) (c .before .before .before .before .before .before .before .before .before .before .item-at .ensures .ends _ _ (c .before .before .before .before .before .before .before .before .read .given .1) .1),
   written-next (c .before .before .before .before .before .before .before .before .before .before .item-at .ensures) (c .before .before .before .before .before .before .before .before .before .before .before .loop .inv .1) (c .before .before .before .before .before .before .before .before .read .given .1) (c .before .blanks-end3 .ensures)
       (rw (c .before .before .before .before .before .item-fields .ensures) at (c .before .before .before .before .put-record .ensures)) (omega arith) (c .if1 .left),
 )

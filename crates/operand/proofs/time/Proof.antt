@@ -33,7 +33,7 @@ returns c = let s = now (c .before .before .before .before .before .args .bytes)
     rw e
 
 fraction-requires : tie.Need-fraction-requires
-fraction-requires c κs = c .before .before .before .number-at .ensures .ends _ _ (c .before .seconds .given .1) .1
+fraction-requires c κs = c .before .before .before .number-at .ensures .ends _ _ (c .before .seconds .given .1) .0
 
 enum-known-micros : tie.Need-enum-known-micros
 enum-known-micros c = search needs

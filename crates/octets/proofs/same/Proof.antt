@@ -1,13 +1,13 @@
--- `operand::same` meets its contract. The loop's invariant: what is left is the same exactly when all is. Assumes nothing.
+-- `octets::same` meets its contract. The loop's invariant: what is left is the same exactly when all is. Assumes nothing.
 use native.Mathlib.Omega.{arith}
 use Prim.Native.Nat.{_≤_, _-_}
 use mathlib.Core.Path.{_≡_, refl, sym, _∙_}
 use denote.Ref.{now}
 use lib.ListN.{length, drop, drop-of-length-le}
-use Rattle.operand.specs.Codes.{same}
-use Rattle.operand.proofs.Finding.{same-length, same-differ, same-onward}
-use Rattle.operand.proofs.same.Statement.{statement}
-use Rattle.operand.proofs.same.Tie as tie
+use Rattle.octets.specs.Equal.{same}
+use Rattle.octets.proofs.Equals.{same-length, same-differ, same-onward}
+use Rattle.octets.proofs.same.Statement.{statement}
+use Rattle.octets.proofs.same.Tie as tie
 
 abbrev Inv-loop : tie.InvT-loop
 Inv-loop a b i₀ i = (i ≤ length a) × (length a ≡ length b) × (same (drop i a) (drop i b) ≡ same a b)
