@@ -13,7 +13,7 @@ use Rattle.program.specs.Readings.{Reading}
 use Rattle.token.specs.Tokens.{Token}
 use Rattle.filter.specs.Grammar.{expression, Reads}
 use Rattle.filter.specs.Levels.{openAt, Open}
-use Rattle.filter.specs.Answers.{Alive, Leads, Has, bad-token, bad-operand, too-deep}
+use Rattle.filter.specs.Answers.{Alive, Leads, Opener, Has, bad-token, bad-operand, too-deep}
 use Rattle.filter.specs.Answering.{numberOf, refusalOf}
 use Rattle.filter.specs.Reader.{depth, State, operand, level, Why, bad, broken, deep, Move, takes, opens, stuck, breaks, Step, go, stop, came, Answer, ok, refused, admit, follow, finish, conclude, answered, start, move, step, walk, read}
 use Rattle.filter.proofs.Walks.{no-came, step-takes, step-opens, walk-go, walk-stop, walk-join, wider}
@@ -124,6 +124,22 @@ stepped L ts s t e = by-move (move s t) refl (move-at ts s t (walk-at L ts s e))
         (λ st. let (h, z) = operand-there L ts s e st in
         operand-unstuck (st .test) h (st .operand) (rw z at p))
     by-move breaks p (k, h, v, i, o, n) u b q = let (st, f) = breaks-rule ts t k h v i o n in bad-operand st f
+
+-- what opens a level too many is `(` or `!`: that 6 says so asks nothing more
+pub deep-opener : {L : ℕ} {ts : List Token} {t : Token} → Leads L ts → Open (ts ++ (t ∷ [])) (suc L) → Opener t
+deep-opener {L} {ts} {t} l o = by-walk (leads-reached L ts l)
+  where
+    by-number : {n : ℕ} → Has L ts t n → Opener t
+    by-number (bad-token a s) = absurd (a (open-alive o))
+    by-number (bad-operand s f) = absurd (broken-dead s f (open-alive o))
+    by-number (too-deep x p) = x
+
+    by-step : (x : Step) → Stepped L ts t x → Opener t
+    by-step (go s) w = absurd (deep-ends o (leads L _ s w))
+    by-step (stop w) h = by-number h
+
+    by-walk : (s : State) × (walk L start ts ≡ came s) → Opener t
+    by-walk (s, e) = by-step (step L s t) (stepped L ts s t e)
 
 -- ---- the answer is one that the words give
 
