@@ -9,7 +9,7 @@ use mathlib.Core.List.{List, _++_}
 use lib.ListN.{length, take}
 use lib.Dec.{eqb, leb, ltb}
 use borrow.Author.Tests.{ltb-true, leb-true, eqb-true, eqb-false, not-true, lt-ltb, le-leb, lt-leb, eq-eqb, ne-eqb}
-use Rattle.octets.specs.Choice.{pick}
+use Rattle.octets.specs.Choice.{pick, both}
 use Rattle.octets.specs.Numbers.{Octets, numberAt, bytesOf}
 use Rattle.octets.proofs.Choices.{never, each, pick-both}
 use Rattle.octets.proofs.Numbers.{number-lt}
@@ -20,7 +20,7 @@ use Rattle.program.specs.declared.Fields.{Fields}
 use Rattle.program.specs.Readings.{byAs, byAddress, byBoth, and, or}
 use Rattle.program.specs.Records.{Record, type, attribute, path, item, peer, loops, bogon, network, time, flip, pass, weightLimit, Possible, Bits32, Code, PassPossible}
 use Rattle.program.specs.Layout.{recordSize, fields, endsCode, fieldsOf, laid, encode, fieldsIn, recordIs, decode}
-use Rattle.program.specs.Validity.{all, unused, rightCode, rightPath, rightItem, rightPeer, rightNetwork, rightTime, rightBare, rightPass, rightFields, rightRecord}
+use Rattle.program.specs.Validity.{unused, rightCode, rightPath, rightItem, rightPeer, rightNetwork, rightTime, rightBare, rightPass, rightFields, rightRecord}
 use Rattle.octets.proofs.Ranges.{within}
 use Rattle.program.proofs.Codes.{relation-few, side-few, comparison-few, ends-few, relation-code, side-code, comparison-code, ends-code, no-ends, ends-none}
 use Rattle.program.proofs.LayoutLaws.{fields-read, laid-read, possible-fit}
@@ -195,20 +195,20 @@ encode-decode l o h e =
 -- ---- possible records
 
 -- where two tests hold, both do
-both : {t u : Bool} → t ≡ true → u ≡ true → all t u ≡ true
-both {t} {u} e f = pick-both t u .1 (e, f)
+both-hold : {t u : Bool} → t ≡ true → u ≡ true → both t u ≡ true
+both-hold {t} {u} e f = pick-both t u .1 (e, f)
 
 -- the fields of a possible record are right
 fields-right : (r : Record) → Possible r → rightFields (fieldsOf r) ≡ true
 unfolding rightFields fieldsOf
-fields-right (type c) p = both (lt-ltb c 256 (p .below)) refl
-fields-right (attribute c) p = both (lt-ltb c 256 (p .below)) refl
+fields-right (type c) p = both-hold (lt-ltb c 256 (p .below)) refl
+fields-right (attribute c) p = both-hold (lt-ltb c 256 (p .below)) refl
 fields-right (path start end count) p =
     let some : endsCode start end + count ≡ 0 → ⊥ =
     λ e.
     let n = ends-none start end (omega arith) in
     p .some (n .0) (n .1) (omega arith) in
-    both (le-leb _ 3 (ends-few start end)) (both (lt-ltb count weightLimit (p .few)) (ap not (ne-eqb _ 0 some)))
+    both-hold (le-leb _ 3 (ends-few start end)) (both-hold (lt-ltb count weightLimit (p .few)) (ap not (ne-eqb _ 0 some)))
 fields-right (item (Number n)) p = refl
 fields-right (item (Other n)) p = refl
 fields-right (item Any) p = refl
@@ -218,14 +218,14 @@ fields-right (peer (byBoth a n)) p = refl
 fields-right loops p = refl
 fields-right bogon p = refl
 fields-right (network r n s) p =
-    both (le-leb _ 3 (relation-few r))
-    (both (le-leb _ 32 (p .sized))
-    (both (le-leb _ 2 (side-few s)) (eq-eqb _ _ (sym (ap (λ (m : Network). m .address) (p .clear))))))
-fields-right (time c seconds micros) p = both (le-leb _ 4 (comparison-few c)) (lt-ltb micros 1000000 (p .fraction))
+    both-hold (le-leb _ 3 (relation-few r))
+    (both-hold (le-leb _ 32 (p .sized))
+    (both-hold (le-leb _ 2 (side-few s)) (eq-eqb _ _ (sym (ap (λ (m : Network). m .address) (p .clear))))))
+fields-right (time c seconds micros) p = both-hold (le-leb _ 4 (comparison-few c)) (lt-ltb micros 1000000 (p .fraction))
 fields-right flip p = refl
-fields-right (pass and count) p = both (le-leb 1 count (p .some)) (both (le-leb (2 + count) weightLimit (p .few)) refl)
-fields-right (pass or count) p = both (le-leb 1 count (p .some)) (both (le-leb (2 + count) weightLimit (p .few)) refl)
+fields-right (pass and count) p = both-hold (le-leb 1 count (p .some)) (both-hold (le-leb (2 + count) weightLimit (p .few)) refl)
+fields-right (pass or count) p = both-hold (le-leb 1 count (p .some)) (both-hold (le-leb (2 + count) weightLimit (p .few)) refl)
 
 -- the bytes of a possible record are right, whatever follows them
 pub encode-right : (r : Record) → Possible r → (rest : List ℕ) → rightRecord (encode r ++ rest) ≡ true
-encode-right r p rest = both (ap rightFields (fields-read (possible-fit r p) rest) ∙ fields-right r p) (unfold laid bytesOf numberAt in refl)
+encode-right r p rest = both-hold (ap rightFields (fields-read (possible-fit r p) rest) ∙ fields-right r p) (unfold laid bytesOf numberAt in refl)

@@ -7,16 +7,16 @@ use mathlib.Core.Bool.{Bool, true}
 use mathlib.Core.List.{List, [], _∷_, _++_}
 use lib.ListN.{length, drop}
 use borrow.Author.Tests.{le-ltb}
+use Rattle.octets.specs.Choice.{both}
 use Rattle.octets.proofs.Choices.{each}
 use Rattle.program.specs.Records.{Record}
 use Rattle.program.specs.Layout.{encode, encodeAll}
-use Rattle.program.specs.Validity.{all}
 use Rattle.program.proofs.ValidRecords.{after-record, record-long}
 use Rattle.program.proofs.Walks.{Checks}
 
 module _ {test : List ℕ → Bool} {walk : ℕ → List ℕ → Bool} (w : Checks test walk) where
   -- over a record and more
-  walk-next : (f : ℕ) (r : Record) (rest : List ℕ) → walk (suc f) (encode r ++ rest) ≡ all (test (encode r ++ rest)) (walk f rest)
+  walk-next : (f : ℕ) (r : Record) (rest : List ℕ) → walk (suc f) (encode r ++ rest) ≡ both (test (encode r ++ rest)) (walk f rest)
   walk-next f r rest = w .step f (encode r ++ rest) ∙ rw (le-ltb _ _ (record-long r rest), after-record r rest)
 
   -- where the walk holds, the test holds at each record

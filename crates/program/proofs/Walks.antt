@@ -9,11 +9,11 @@ use mathlib.Core.List.{List}
 use lib.ListN.{length, drop, length-drop}
 use lib.Dec.{eqb, ltb}
 use borrow.Author.Tests.{lt-ltb, le-ltb}
-use Rattle.octets.specs.Choice.{pick}
+use Rattle.octets.specs.Choice.{pick, both}
 use Rattle.program.specs.declared.Left.{Left}
 use Rattle.program.specs.declared.Left.the-variants.{Items, Wrong}
 use Rattle.program.specs.Layout.{recordSize}
-use Rattle.program.specs.Validity.{all, rightRecord, allRightIn, leftAfter, onItems, groupedIn, landsWell, landingIn}
+use Rattle.program.specs.Validity.{rightRecord, allRightIn, leftAfter, onItems, groupedIn, landsWell, landingIn}
 
 -- a walk in a state: at the end it comes to done, else to what goes makes of the record at the front and of the walk after it
 pub record Walk {S : Type 0} (walk : ℕ → S → List ℕ → Bool) (done : S → Bool) (goes : S → List ℕ → (S → Bool) → Bool) : Type 0 where
@@ -53,11 +53,11 @@ module _ {S : Type 0} {walk : ℕ → S → List ℕ → Bool} {done : S → Boo
 
 pub record Checks (check : List ℕ → Bool) (walk : ℕ → List ℕ → Bool) : Type 0 where
   pub bare : (l : List ℕ) → walk zero l ≡ true
-  pub step : (f : ℕ) (l : List ℕ) → walk (suc f) l ≡ pick (ltb (length l) recordSize) true (all (check l) (walk f (drop recordSize l)))
+  pub step : (f : ℕ) (l : List ℕ) → walk (suc f) l ≡ pick (ltb (length l) recordSize) true (both (check l) (walk f (drop recordSize l)))
 
 module _ {check : List ℕ → Bool} {walk : ℕ → List ℕ → Bool} (c : Checks check walk) where
-  checks-walk : Walk {S = Unit {0}} (λ f s l. walk f l) (λ s. true) (λ s l go. all (check l) (go tt))
-  checks-walk = record { bare = λ s l. c .bare l; step = λ f s l. c .step f l; alike = λ s l e. ap (λ (b : Bool). all (check l) b) (e tt) }
+  checks-walk : Walk {S = Unit {0}} (λ f s l. walk f l) (λ s. true) (λ s l go. both (check l) (go tt))
+  checks-walk = record { bare = λ s l. c .bare l; step = λ f s l. c .step f l; alike = λ s l e. ap (λ (b : Bool). both (check l) b) (e tt) }
 
   -- where no whole record stands, each has passed
   pub checks-end : (f : ℕ) (l : List ℕ) → length l < recordSize → walk f l ≡ true

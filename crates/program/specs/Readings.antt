@@ -1,8 +1,8 @@
 -- A reading (the paper's term): the tree that the grammar derives for a text, each test with what its operand stands for.
 use Prim.Native.Nat.{ℕ, _+_}
-use mathlib.Core.Bool.{Bool, true, false, not}
+use mathlib.Core.Bool.{Bool, true, not}
 use lib.ListN.{length}
-use Rattle.octets.specs.Choice.{pick}
+use Rattle.octets.specs.Choice.{pick, both}
 use Rattle.network.specs.declared.Network.{Network}
 use Rattle.network.specs.declared.Relation.{Relation}
 use Rattle.aspath.specs.Patterns.{Pattern}
@@ -61,7 +61,7 @@ weight (joint o a b) = weight a + 1 + weight b
 
 -- `-and` as both, `-or` as either
 abbrev pub joins : Operator → Bool → Bool → Bool
-joins and a b = pick a b false
+joins and a b = both a b
 joins or a b = pick a true b
 
 -- the left side didn't decide

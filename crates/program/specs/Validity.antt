@@ -5,7 +5,7 @@ use mathlib.Core.Bool.{Bool, true, false, not}
 use mathlib.Core.List.{List, [], _∷_, _++_, map}
 use lib.ListN.{length, getD, drop}
 use lib.Dec.{eqb, leb, ltb}
-use Rattle.octets.specs.Choice.{pick}
+use Rattle.octets.specs.Choice.{pick, both}
 use Rattle.octets.specs.Numbers.{numberAt}
 use Rattle.network.specs.Networks.{cleared}
 use Rattle.aspath.specs.declared.Item.{Item}
@@ -43,9 +43,6 @@ pub record Valid (program : List ℕ) : Type 0 where
 
 -- ---- what the code computes, of the record at the front and of records one after another; f bounds these
 
-abbrev pub all : Bool → Bool → Bool
-all a b = pick a b false
-
 -- nothing stands in a field
 abbrev pub unused : ℕ → Bool
 unused n = eqb n 0
@@ -53,45 +50,45 @@ unused n = eqb n 0
 -- the fields of each kind are in their ranges, and those that it leaves unused are zero
 
 abbrev pub rightCode : Fields → Bool
-rightCode f = all (unused (f .variant)) (all (unused (f .count)) (all (ltb (f .a) 256) (unused (f .b))))
+rightCode f = both (unused (f .variant)) (both (unused (f .count)) (both (ltb (f .a) 256) (unused (f .b))))
 
 abbrev pub rightPath : Fields → Bool
 rightPath f =
-    all (leb (f .variant) 3)
-    (all (ltb (f .count) weightLimit)
-    (all (unused (f .a))
-    (all (unused (f .b)) (not (eqb (f .variant + f .count) 0)))))
+    both (leb (f .variant) 3)
+    (both (ltb (f .count) weightLimit)
+    (both (unused (f .a))
+    (both (unused (f .b)) (not (eqb (f .variant + f .count) 0)))))
 
 abbrev pub rightItem : Fields → Bool
 rightItem f =
-    all (leb (f .variant) 2)
-    (all (unused (f .count))
-    (all (unused (f .b)) (pick (eqb (f .variant) 2) (unused (f .a)) true)))
+    both (leb (f .variant) 2)
+    (both (unused (f .count))
+    (both (unused (f .b)) (pick (eqb (f .variant) 2) (unused (f .a)) true)))
 
 abbrev pub rightPeer : Fields → Bool
 rightPeer f =
-    all (unused (f .count))
+    both (unused (f .count))
     (pick (eqb (f .variant) 1) (unused (f .a))
     (pick (eqb (f .variant) 2) (unused (f .b)) (eqb (f .variant) 3)))
 
 abbrev pub rightNetwork : Fields → Bool
 rightNetwork f =
-    all (leb (f .variant) 3)
-    (all (leb (f .count) 32)
-    (all (leb (f .b) 2) (eqb (cleared 32 (f .count) (f .a)) (f .a))))
+    both (leb (f .variant) 3)
+    (both (leb (f .count) 32)
+    (both (leb (f .b) 2) (eqb (cleared 32 (f .count) (f .a)) (f .a))))
 
 abbrev pub rightTime : Fields → Bool
-rightTime f = all (leb (f .variant) 4) (all (unused (f .count)) (ltb (f .b) 1000000))
+rightTime f = both (leb (f .variant) 4) (both (unused (f .count)) (ltb (f .b) 1000000))
 
 abbrev pub rightBare : Fields → Bool
-rightBare f = all (unused (f .variant)) (all (unused (f .count)) (all (unused (f .a)) (unused (f .b))))
+rightBare f = both (unused (f .variant)) (both (unused (f .count)) (both (unused (f .a)) (unused (f .b))))
 
 abbrev pub rightPass : Fields → Bool
 rightPass f =
-    all (unused (f .variant))
-    (all (leb 1 (f .count))
-    (all (leb (2 + f .count) weightLimit)
-    (all (unused (f .a)) (unused (f .b)))))
+    both (unused (f .variant))
+    (both (leb 1 (f .count))
+    (both (leb (2 + f .count) weightLimit)
+    (both (unused (f .a)) (unused (f .b)))))
 
 unfoldable pub rightFields : Fields → Bool
 rightFields f =
@@ -108,11 +105,11 @@ rightFields f =
 
 -- and so are the last four bytes
 abbrev pub rightRecord : List ℕ → Bool
-rightRecord l = all (rightFields (fieldsIn l)) (eqb (numberAt l 12 4) 0)
+rightRecord l = both (rightFields (fieldsIn l)) (eqb (numberAt l 12 4) 0)
 
 unfoldable pub allRightIn : ℕ → List ℕ → Bool
 allRightIn zero l = true
-allRightIn (suc f) l = pick (ltb (length l) recordSize) true (all (rightRecord l) (allRightIn f (drop recordSize l)))
+allRightIn (suc f) l = pick (ltb (length l) recordSize) true (both (rightRecord l) (allRightIn f (drop recordSize l)))
 
 -- the items that still follow after the record at the front, where left of them are due there
 unfoldable pub leftAfter : ℕ → List ℕ → Left
@@ -142,14 +139,14 @@ landsWell l =
 
 unfoldable pub landingIn : ℕ → List ℕ → Bool
 landingIn zero l = true
-landingIn (suc f) l = pick (ltb (length l) recordSize) true (all (landsWell l) (landingIn f (drop recordSize l)))
+landingIn (suc f) l = pick (ltb (length l) recordSize) true (both (landsWell l) (landingIn f (drop recordSize l)))
 
 unfoldable pub isValid : List ℕ → Bool
 isValid program =
-    all (leb recordSize (length program))
-    (all (leb (length program) (recordSize * weightLimit))
-    (all (eqb (length program % recordSize) 0)
-    (all (allRightIn (length program) program)
-    (all (isTestKind (getD program 0 0))
-    (all (groupedIn (length program) 0 program)
+    both (leb recordSize (length program))
+    (both (leb (length program) (recordSize * weightLimit))
+    (both (eqb (length program % recordSize) 0)
+    (both (allRightIn (length program) program)
+    (both (isTestKind (getD program 0 0))
+    (both (groupedIn (length program) 0 program)
     (landingIn (length program) program))))))

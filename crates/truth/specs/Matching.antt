@@ -3,7 +3,7 @@ use Prim.Native.Nat.{ℕ}
 use mathlib.Core.Bool.{Bool, true, false}
 use mathlib.Core.List.{List, [], _∷_}
 use lib.Dec.{eqb, leb}
-use Rattle.octets.specs.Choice.{pick}
+use Rattle.octets.specs.Choice.{pick, both}
 use Rattle.aspath.specs.declared.Item.{Item}
 use Rattle.aspath.specs.declared.Cursor.{Cursor}
 use Rattle.aspath.specs.declared.Next.{Next}
@@ -16,7 +16,6 @@ use Rattle.aspath.specs.Patterns.{Pattern, fits, matches}
 use Rattle.program.specs.declared.Fields.{Fields}
 use Rattle.program.specs.Layout.{itemIs, isStart}
 use Rattle.program.specs.Machine.{recordsIn, itemsAfter}
-use Rattle.program.specs.Validity.{all}
 
 -- ---- what the code computes
 
@@ -40,7 +39,7 @@ endsAt n = onNext n (λ m after. false) true
 -- the items match members from a cursor on; to the end where end is true
 unfoldable pub matchesAt : Bool → List Item → ℕ → List ℕ → Cursor → Bool
 matchesAt end [] w path c = pick end (endsAt (nextAt w path c)) true
-matchesAt end (i ∷ is) w path c = onNext (nextAt w path c) (λ m after. all (fits i m) (matchesAt end is w path after)) false
+matchesAt end (i ∷ is) w path c = onNext (nextAt w path c) (λ m after. both (fits i m) (matchesAt end is w path after)) false
 
 -- the pattern of a path record and its items
 abbrev pub patternOf : Fields → List Item → Pattern

@@ -6,7 +6,7 @@ use mathlib.Core.Option.{Option, some, none}
 use mathlib.Core.List.{List, [], _∷_, _++_, map}
 use lib.ListN.{length, getD}
 use lib.Dec.{eqb, leb, ltb}
-use Rattle.octets.specs.Choice.{pick}
+use Rattle.octets.specs.Choice.{pick, both}
 use Rattle.network.specs.declared.Network.{Network}
 use Rattle.network.specs.declared.Relation.{Relation}
 use Rattle.network.specs.Networks.{Relates, relates}
@@ -19,7 +19,6 @@ use Rattle.attributes.specs.Attribute.{atomicAggregate, codeOf, firstOf, askPat
 use Rattle.attributes.specs.Codes.{elem}
 use Rattle.message.specs.Message.{Message, update}
 use Rattle.message.specs.Represents.{addressBits}
-use Rattle.program.specs.Validity.{all}
 use Rattle.program.specs.Readings.{Peer, byAs, byAddress, byBoth, Side, eitherSide, announced, withdrawn, Comparison, equal, below, atMost, above, atLeast, Test, typeIs, hasAttribute, pathMatches, peerIs, hasLoop, hasBogon, networkIs, timeIs}
 
 -- the path of an UPDATE that has an AS_PATH
@@ -83,7 +82,7 @@ isUpdate m = eqb (m .kind) update
 abbrev pub samePeer : Peer → ℕ → ℕ → Bool
 samePeer (byAs n) address number = eqb number n
 samePeer (byAddress a) address number = eqb address a
-samePeer (byBoth a n) address number = all (eqb address a) (eqb number n)
+samePeer (byBoth a n) address number = both (eqb address a) (eqb number n)
 
 abbrev pub onSegments : Option (List Segment) → (List Member → Bool) → Bool
 onSegments none test = false
@@ -91,7 +90,7 @@ onSegments (some segments) test = test (members segments)
 
 -- a test of the path
 unfoldable pub onPath : Message → (List Member → Bool) → Bool
-onPath m test = all (isUpdate m) (onSegments (firstOf askPath (m .attributes)) test)
+onPath m test = both (isUpdate m) (onSegments (firstOf askPath (m .attributes)) test)
 
 unfoldable pub somePrefix : Relation → Network → List Network → Bool
 somePrefix r operand [] = false
@@ -106,10 +105,10 @@ compares atLeast a b = leb b a
 
 unfoldable pub isTrue : Message → Test → Bool
 isTrue m (typeIs code) = eqb (m .kind) code
-isTrue m (hasAttribute code) = all (isUpdate m) (elem code (map codeOf (m .attributes)))
+isTrue m (hasAttribute code) = both (isUpdate m) (elem code (map codeOf (m .attributes)))
 isTrue m (pathMatches p) = onPath m (matches p)
 isTrue m (peerIs p) = samePeer p (m .peerAddress) (m .peerAs)
 isTrue m hasLoop = onPath m loops.hasLoop
 isTrue m hasBogon = onPath m someBogon
-isTrue m (networkIs r n s) = all (isUpdate m) (somePrefix r n (prefixesOn s m))
+isTrue m (networkIs r n s) = both (isUpdate m) (somePrefix r n (prefixesOn s m))
 isTrue m (timeIs c seconds micros) = compares c (m .seconds * second) (seconds * second + micros)
