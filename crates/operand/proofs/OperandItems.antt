@@ -8,7 +8,7 @@ use mathlib.Core.List.{List, [], _∷_, _++_, append-assoc}
 use lib.ListN.{length, length-append}
 use Rattle.aspath.specs.declared.Item.{Item}
 use Rattle.token.specs.Texts.{Blank, Every, none, more}
-use Rattle.operand.specs.Decimals.{Decimal, digit, more}
+use Rattle.octets.specs.Decimal.{Decimal, digit, more}
 use Rattle.operand.proofs.Holding.{Holds, nothing, held, holds-onward, holds-else, holds-map}
 use Rattle.operand.proofs.FrontReads.{Got, Run, Stops, end, other, after-sound, run-append, cut-joined, cut-run, cut-exact}
 use Rattle.operand.proofs.Decimals.{number-sound, number-complete, number-none}
