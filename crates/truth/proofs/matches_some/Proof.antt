@@ -10,7 +10,8 @@ use Rattle.aspath.specs.declared.Cursor.{Cursor}
 use Rattle.aspath.specs.Members.{Member}
 use Rattle.aspath.specs.Wire.{bytes, membersOf}
 use Rattle.aspath.specs.Patterns.{matchesHere, matchesSome}
-use Rattle.aspath.proofs.Cursors.{remaining, member-view, end-view, whole-path}
+use Rattle.aspath.specs.Cursors.{remaining}
+use Rattle.aspath.proofs.Cursors.{member-view, end-view, whole-path}
 use Rattle.truth.specs.Matching.{itemsIn}
 use Rattle.truth.proofs.PathReads.{at-members, some-here, some-none, some-next}
 use Rattle.truth.proofs.matches_some.Statement.{statement}
