@@ -14,15 +14,15 @@ use Rattle.octets.specs.Numbers.{Octets, numberAt, bytesOf}
 use Rattle.octets.proofs.Bytes.{octets-take, octets-drop, octets-append}
 use Rattle.octets.proofs.Numbers.{number-front, number-after, number-take}
 use Rattle.octets.proofs.Rows.{Reads}
-use Rattle.attributes.specs.Wire.{Raw, RawBytes, lengthWidth, headerSize, bodySize, attributeSize, rawOf}
+use Rattle.attributes.specs.Wire.{Raw, RawBytes, lengthWidth, attributeHeader, bodySize, attributeSize, rawOf}
 use Rattle.attributes.proofs.Sizes.{fits-stands, size-stands, attribute-sizes}
 use Rattle.octets.proofs.Encode.{bytes-field, bytes-length, octets-one}
 
 -- ---- reading an attribute's bytes
 
 module _ {r : Raw} {bytes : List ℕ} (x : RawBytes r bytes) (rest : List ℕ) where
-  raw-header : headerSize (bytes ++ rest) ≡ 2 + length (x .size)
-  unfolding headerSize
+  raw-header : attributeHeader (bytes ++ rest) ≡ 2 + length (x .size)
+  unfolding attributeHeader
   raw-header = rw (x .joined, x .sized .long)
 
   raw-body : bodySize (bytes ++ rest) ≡ length (r .body)
@@ -38,7 +38,7 @@ module _ {r : Raw} {bytes : List ℕ} (x : RawBytes r bytes) (rest : List ℕ) w
   raw-length : length bytes ≡ 2 + length (x .size) + length (r .body)
   raw-length = ap length (x .joined) ∙ simp length-append (omega arith)
 
-  raw-stands : headerSize (bytes ++ rest) + bodySize (bytes ++ rest) ≤ length (bytes ++ rest)
+  raw-stands : attributeHeader (bytes ++ rest) + bodySize (bytes ++ rest) ≤ length (bytes ++ rest)
   raw-stands = simp (raw-header, raw-body, length-append) (omega (arith, raw-length))
 
   raw-exact : attributeSize (bytes ++ rest) ≡ length bytes
@@ -55,8 +55,8 @@ module _ {r : Raw} {bytes : List ℕ} (x : RawBytes r bytes) (rest : List ℕ) w
 
 -- ---- what is read
 
-raw-sound : (l : List ℕ) → Octets l → headerSize l + bodySize l ≤ length l → RawBytes (rawOf l) (take (headerSize l + bodySize l) l)
-unfolding headerSize bodySize rawOf
+raw-sound : (l : List ℕ) → Octets l → attributeHeader l + bodySize l ≤ length l → RawBytes (rawOf l) (take (attributeHeader l + bodySize l) l)
+unfolding attributeHeader bodySize rawOf
 raw-sound [] o h = absurd (omega arith)
 raw-sound (f ∷ []) o h = absurd (omega arith)
 raw-sound (f ∷ c ∷ l) o h =

@@ -7,6 +7,7 @@ use mathlib.Core.Option.{none}
 use lib.ListN.{length, getD, take, drop, replicate, length-replicate}
 use lib.Seq.{take-at}
 use borrow.Author.Tests.{eq-eqb}
+use Rattle.octets.specs.Header.{headerSize}
 use Rattle.octets.specs.Numbers.{numberAt, bytesOf}
 use Rattle.octets.proofs.Choices.{never}
 use Rattle.message.specs.Message.{Message}
@@ -14,7 +15,7 @@ use Rattle.line.specs.Line.{lineOf, linesOf}
 use Rattle.program.specs.Readings.{hasLoop, hasBogon, Reading, test, neg, itemCount, weight}
 use Rattle.program.specs.Layout.{recordSize, fieldsOf, laid, encodeAll}
 use Rattle.program.specs.Compiling.{headOf, itemsOf, records, programOf}
-use Rattle.walk.specs.Split.{headerSize, IsRecord, Splits, nothing}
+use Rattle.walk.specs.Split.{IsRecord, Splits, nothing}
 use Rattle.walk.proofs.Splits.{splits-append, splits-rest}
 use Rattle.judge.specs.Tallies.{FullTally}
 use Rattle.judge.specs.Functions.{Judge, ourJudge}

@@ -9,7 +9,8 @@ use Rattle.aspath.specs.declared.Width.{Width}
 use Rattle.aspath.specs.Wire.{bytes}
 use Rattle.attributes.specs.Bodies.{attributesOf}
 use Rattle.message.specs.Message.{Message, update}
-use Rattle.message.specs.Fields.{secondsField, frame, peerAsField, peerAddressField, kindField, bodyStart, body, withdrawnSize, attributesSize, withdrawnIn, attributesIn, announcedIn}
+use Rattle.octets.specs.Header.{secondsField}
+use Rattle.message.specs.Fields.{frame, peerAsField, peerAddressField, kindField, bodyStart, body, withdrawnSize, attributesSize, withdrawnIn, attributesIn, announcedIn}
 use Rattle.message.specs.Decode.{networksOf, messageAt, otherParts, updateParts}
 
 -- a message of a record's numbers, of a type and with three lists

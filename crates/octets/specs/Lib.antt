@@ -1,5 +1,7 @@
 pub mod Choice
 pub mod Numbers
+pub mod Header
+pub mod Parts
 pub mod Writes
 pub mod Decimal
 pub mod Rows

@@ -21,7 +21,7 @@ unfolding said codeOf
 said-code w = by-code (λ body. refl) (λ body. refl) (λ body. refl) (λ body. refl) (λ r u. rw (said-other w r u) refl)
 
 raws-coded : (w code : ℕ) (raws : List Raw) → someCode code (map (said w) raws) ≡ elem code (codes raws)
-unfolding someCode elem codes
+unfolding someCode elem
 raws-coded w code [] = refl
 raws-coded w code (r ∷ raws) = rw (said-code w r, raws-coded w code raws) refl
 
@@ -34,7 +34,7 @@ record Byte (r : Raw) : Type 0 where
   below : r .code < 256
 
 none-over : {code : ℕ} → 255 < code → {raws : List Raw} → Every Byte raws → elem code (codes raws) ≡ false
-unfolding elem codes
+unfolding elem
 none-over h every-none = refl
 none-over {code} h (every-more {a = r} b bs) =
     let n : r .code ≡ code → ⊥ = λ e. omega (arith, b .below) in
