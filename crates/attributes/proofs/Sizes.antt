@@ -32,14 +32,18 @@ width-either flags = go (ℕ-discrete (flags / 16 % 2) 1)
     go (yes e) = inr (width-two flags e)
     go (no n) = inl (width-one flags n)
 
+-- so one at least
+pub width-least : (flags : ℕ) → 1 ≤ lengthWidth flags
+width-least flags = go (width-either flags)
+  where
+    go : (lengthWidth flags ≡ 1) ⊎ (lengthWidth flags ≡ 2) → 1 ≤ lengthWidth flags
+    go (inl e) = omega arith
+    go (inr e) = omega arith
+
 -- a header is three bytes or more
 pub header-least : (l : List ℕ) → 3 ≤ attributeHeader l
 unfolding attributeHeader
-header-least l = go (width-either (getD l 0 0))
-  where
-    go : (lengthWidth (getD l 0 0) ≡ 1) ⊎ (lengthWidth (getD l 0 0) ≡ 2) → 3 ≤ attributeHeader l
-    go (inl e) = omega arith
-    go (inr e) = omega arith
+header-least l = omega (arith, width-least (getD l 0 0))
 
 -- a body is shorter than 2 ^ 16
 pub body-lt : (l : List ℕ) → ((i : ℕ) → getD l i 0 < 256) → bodySize l < 65536

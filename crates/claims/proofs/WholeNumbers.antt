@@ -1,27 +1,24 @@
 -- AS numbers are whole: every number of a width stands in some record, as the peer's and as the path. Assumes nothing.
-use Prim.Native.Nat.{ℕ, zero, suc, _+_, _^_, _≤_, _<_}
+use Prim.Native.Nat.{ℕ, _^_, _≤_, _<_}
 use native.Mathlib.Omega.{arith}
-use mathlib.Core.Path.{_≡_, refl}
+use mathlib.Core.Path.{refl}
 use mathlib.Core.Bool.{Bool, true, false}
-use mathlib.Core.List.{List, [], _∷_, map}
-use lib.ListN.{getD}
+use mathlib.Core.List.{[], _∷_, map}
 use lib.Dec.{ltb}
 use Rattle.octets.specs.Choice.{pick}
-use Rattle.octets.proofs.Rows.{total}
-use Rattle.octets.proofs.Encode.{every-none, every-more}
+use Rattle.octets.specs.Lists.{every-none, every-more, total}
 use Rattle.aspath.specs.declared.Width.{Width}
 use Rattle.aspath.specs.declared.Width.the-variants.{Two, Four}
 use Rattle.aspath.specs.Members.{Segment, sequence, members}
 use Rattle.aspath.specs.Wire.{bytes}
-use Rattle.aspath.proofs.SegmentReads.{Encodable, segmentCost}
+use Rattle.aspath.specs.Encodable.{EncodableSegment}
 use Rattle.attributes.specs.Attribute.{asPath, codeOf, firstOf, askPath}
 use Rattle.attributes.specs.Codes.{Twice}
-use Rattle.attributes.proofs.RawReads.{withHeader}
-use Rattle.attributes.proofs.AttributesExist.{bodyCost}
+use Rattle.attributes.specs.Encodable.{bodyCost, withHeader}
 use Rattle.message.specs.Message.{Message, update}
-use Rattle.message.specs.Represents.{messageLimit, Represents}
+use Rattle.message.specs.Allowed.{for-update, Allowed}
 use Rattle.message.proofs.RecordReads.{represents-one}
-use Rattle.message.proofs.Encodable.{updateCost, for-update, Allowed, represents-exists}
+use Rattle.message.proofs.Encodable.{represents-exists}
 use Rattle.claims.specs.DemandTwo.{Whole}
 
 -- a sequence of a number alone
@@ -56,13 +53,8 @@ once : (n : ℕ) → Twice (map codeOf (asPath (segment n ∷ []) ∷ [])) → �
 once n t = omega (arith, t .order, t .within)
 
 module _ (w : Width) (n : ℕ) (h : n < 256 ^ bytes w) where
-  -- each number of it fits
-  each-below : (i : ℕ) → getD (n ∷ []) i 0 < 256 ^ bytes w
-  each-below zero = h
-  each-below (suc i) = omega arith
-
-  encodable : Encodable (bytes w) (segment n)
-  encodable = record { some = omega arith; few = omega arith; below = each-below }
+  encodable : EncodableSegment (bytes w) (segment n)
+  encodable = record { some = omega arith; few = omega arith; below = every-more h every-none }
 
   allowed : Allowed (sent w n)
   unfolding total bodyCost withHeader

@@ -6,16 +6,18 @@ use mathlib.Core.List.{List, map}
 use lib.ListN.{length, getD, length-append}
 use Rattle.octets.specs.Numbers.{Octets}
 use Rattle.octets.specs.Decimal.{decimal}
+use Rattle.octets.specs.Lists.{Every, every-none, every-more}
 use Rattle.octets.proofs.Bytes.{octets-drop}
 use Rattle.octets.proofs.Numbers.{number-lt}
 use Rattle.octets.proofs.Decimal.{digits-length, digits-few}
-use Rattle.octets.proofs.Encode.{Every, every-none, every-more, total-same}
+use Rattle.octets.proofs.Encode.{total-same}
 use Rattle.octets.proofs.Items.{items-every}
 use Rattle.aspath.specs.declared.Width.{Width}
 use Rattle.aspath.specs.declared.Width.the-variants.{Two, Four}
 use Rattle.aspath.specs.Members.{Kind, set, sequence, Segment}
 use Rattle.aspath.specs.Wire.{bytes, numbersIn, segmentSize, segmentOf, segmentsOf}
-use Rattle.aspath.proofs.SegmentReads.{segmentCost, members-count}
+use Rattle.aspath.specs.Encodable.{segmentCost}
+use Rattle.aspath.proofs.SegmentReads.{members-count}
 use Rattle.line.specs.Text.{separated, numbersText, segmentText, pathText}
 use Rattle.line.proofs.Costs.{textCost, separated-length, total-every}
 

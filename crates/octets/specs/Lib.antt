@@ -4,4 +4,5 @@ pub mod Header
 pub mod Parts
 pub mod Writes
 pub mod Decimal
+pub mod Lists
 pub mod Rows
