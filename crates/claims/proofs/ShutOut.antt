@@ -11,6 +11,7 @@ use Rattle.octets.specs.Header.{headerSize}
 use Rattle.octets.specs.Numbers.{numberAt, bytesOf}
 use Rattle.octets.proofs.Choices.{never}
 use Rattle.message.specs.Message.{Message}
+use Rattle.line.specs.Text.{separated}
 use Rattle.line.specs.Line.{lineOf, linesOf}
 use Rattle.program.specs.Readings.{hasLoop, hasBogon, Reading, test, neg, itemCount, weight}
 use Rattle.program.specs.Layout.{recordSize, fieldsOf, laid, encodeAll}
@@ -117,7 +118,7 @@ module _ (judge : Judge) (runner : Runner) where
 
   -- one that writes nothing: `! -loops` keeps R, whose line begins with `+`
   pub writes-nothing : DemandTwo ourCompiler (writesNothing judge) runner → ⊥
-  unfolding linesOf lineOf messageR
+  unfolding linesOf lineOf separated messageR
   writes-nothing d =
       let x = on-R not-loops few-not (writesNothing judge) runner d room in
       let e : _≡_ {A = ℕ} 0 43 = sym (first-blank (length (linesOf messageR))) ∙ ap (λ (l : List ℕ). getD l 0 0) (x .printed room-enough (not-loops .verdict) .1) in

@@ -35,6 +35,7 @@ use Rattle.line.specs.Text.{following, prefixesText, pathText, optional}
 use Rattle.line.specs.Line.{originText, atomicText, widthText, attributeFields, closingFields, lineOf, linesOf}
 use Rattle.line.specs.Answer.{lineRoom, isAmple}
 use Rattle.octets.proofs.Choices.{second-chosen}
+use Rattle.line.proofs.Lines.{line-cons}
 use Rattle.line.proofs.Costs.{prefixes-short}
 use Rattle.line.proofs.PathCosts.{path-short}
 
@@ -98,9 +99,8 @@ line-short type prefixes {attributes} address asn seconds width o h =
         → length (lineOf type ns (attributesOf (bytes width) attributes) (closingFields address asn seconds width)) ≤ 10 * length prefixes + 3 * length attributes + 67
     go [] k = unfold lineOf in omega arith
     go (n ∷ ns) k =
-        unfold lineOf in
-        let e : length (following 124 (prefixesText (n ∷ ns) ∷ [])) ≡ 1 + length (prefixesText (n ∷ ns)) = unfold following in simp length-append (omega arith) in
-        simp length-append (omega (arith, attributes-short width o, closing-short address asn seconds width h))
+        rw (line-cons type (attributesOf (bytes width) attributes) (closingFields address asn seconds width) n ns)
+        (simp length-append (omega (arith, attributes-short width o, closing-short address asn seconds width h)))
 
 -- a part has no more bytes than it says
 part-length : (s : List ℕ) (p : Part) → length (partOf s p) ≤ p .len

@@ -1,7 +1,7 @@
 -- Laws of a line, which has text just where there are prefixes, and of both lines. Assumes nothing.
 use Prim.Native.Nat.{ℕ}
-use mathlib.Core.Path.{_≡_, refl}
-use mathlib.Core.List.{List, [], _∷_, _++_, append-nil}
+use mathlib.Core.Path.{_≡_, refl, sym, ap, _∙_}
+use mathlib.Core.List.{List, [], _∷_, _++_, append-assoc}
 use Rattle.octets.specs.Rows.{itemsIn}
 use Rattle.octets.specs.Writes.{Written}
 use Rattle.octets.proofs.Rows.{items-next, items-end}
@@ -14,18 +14,41 @@ use Rattle.attributes.specs.Attribute.{Attribute}
 use Rattle.attributes.specs.Bodies.{attributesOf}
 use Rattle.message.specs.declared.Parts.{Parts}
 use Rattle.message.specs.Decode.{partOf, networksOf, messageAt}
-use Rattle.line.specs.Text.{following, prefixesText}
+use Rattle.line.specs.Text.{following, separated, prefixesText}
 use Rattle.line.specs.Line.{attributeFields, closingFields, lineOf, linesOf}
 
+-- texts after others, each after a separator
+following-append : (separator : ℕ) (xs ys : List (List ℕ)) → following separator (xs ++ ys) ≡ following separator xs ++ following separator ys
+unfolding following
+following-append separator [] ys = refl
+following-append separator (x ∷ xs) ys =
+    ap (λ (l : List ℕ). ((separator ∷ []) ++ x) ++ l) (following-append separator xs ys)
+    ∙ sym (append-assoc ((separator ∷ []) ++ x) (following separator xs) (following separator ys))
+
+-- the first two of more
+separated-two : (separator : ℕ) (x y : List ℕ) (more : List (List ℕ))
+    → separated separator (x ∷ y ∷ more) ≡ x ++ ((separator ∷ []) ++ (y ++ following separator more))
+unfolding separated following
+separated-two separator x y more = refl
+
 module _ (type : ℕ) (attributes : List Attribute) (closing : List (List ℕ)) where
-  abbrev lineText : List Network → List ℕ
+  -- the parts of a line as they are written one after another
+  abbrev pub lineText : List Network → List ℕ
   lineText networks =
       (type ∷ []) ++ ((124 ∷ []) ++ (prefixesText networks
       ++ (following 124 (attributeFields attributes) ++ (following 124 closing ++ (10 ∷ [])))))
 
-  line-cons : (n : Network) (more : List Network) → lineOf type (n ∷ more) attributes closing ≡ lineText (n ∷ more)
-  unfolding lineOf following
-  line-cons n more = rw (append-nil (prefixesText (n ∷ more))) refl
+  -- these are its fields with bars between, and LF
+  pub line-cons : (n : Network) (more : List Network) → lineOf type (n ∷ more) attributes closing ≡ lineText (n ∷ more)
+  unfolding lineOf
+  line-cons n more =
+      let p = prefixesText (n ∷ more) in
+      let f = following 124 (attributeFields attributes) in
+      let g = following 124 closing in
+      ap (λ (l : List ℕ). l ++ (10 ∷ []))
+      (separated-two 124 (type ∷ []) p (attributeFields attributes ++ closing)
+      ∙ ap (λ (l : List ℕ). type ∷ 124 ∷ (p ++ l)) (following-append 124 (attributeFields attributes) closing))
+      ∙ ap (λ (l : List ℕ). type ∷ 124 ∷ l) (append-assoc p (f ++ g) (10 ∷ []) ∙ ap (λ (l : List ℕ). p ++ l) (append-assoc f g (10 ∷ [])))
 
   -- where no prefix stands there is no line
   pub line-none : (prefixes : List ℕ) → prefixSize 32 prefixes ≡ 0 → lineOf type (networksOf prefixes) attributes closing ≡ []
