@@ -13,9 +13,9 @@ use Rattle.aspath.specs.declared.Width.the-variants.{Two, Four}
 use Rattle.aspath.specs.Members.{Kind, set, sequence, Segment, Member, members}
 
 -- AS numbers are of two bytes or four
-abbrev pub bytes : Width → ℕ
-bytes Two = 2
-bytes Four = 4
+abbrev pub widthBytes : Width → ℕ
+widthBytes Two = 2
+widthBytes Four = 4
 
 -- the type of a segment
 abbrev pub kindCode : Kind → ℕ

@@ -4,7 +4,7 @@ ghost use mathlib.Core.Bool.{false};
 ghost use Prim.Native.Nat.{_+_, _/_, _%_, _^_, _<_, _≤_};
 ghost use lib.ListN.{length, drop};
 ghost use lib.Dec.{eqb};
-ghost use Rattle.aspath.specs.Wire.{bytes};
+ghost use Rattle.aspath.specs.Wire.{widthBytes};
 ghost use Rattle.attributes.specs.Wire.{lengthWidth, attributeHeader, bodySize, attributeSize, rawsOf};
 ghost use Rattle.attributes.specs.Codes.{isSound};
 ghost use Rattle.attributes.specs.Bodies.{bodyRight, allRight};
@@ -98,7 +98,7 @@ pub fn sound(s: &[u8]) -> bool
 
 // Whether the body of an attribute is as its code asks: ORIGIN, AS_PATH, NEXT_HOP and ATOMIC_AGGREGATE are looked at, others are free.
 fn body_right(code: u32, body: &[u8], width: Width) -> bool
-    ensures { λ r. ⌜ r ≡ bodyRight (bytes width) code (now (body .entry)) ⌝ }
+    ensures { λ r. ⌜ r ≡ bodyRight (widthBytes width) code (now (body .entry)) ⌝ }
 {
     match code {
         1 => {
@@ -116,7 +116,7 @@ fn body_right(code: u32, body: &[u8], width: Width) -> bool
 
 // Whether every body of a section is right.
 pub fn bodies_right(s: &[u8], width: Width) -> bool
-    ensures { λ r. ⌜ r ≡ allRight (bytes width) (rawsOf (now (s .entry))) ⌝ }
+    ensures { λ r. ⌜ r ≡ allRight (widthBytes width) (rawsOf (now (s .entry))) ⌝ }
 {
     let mut at = 0;
     while at < s.len() {

@@ -10,7 +10,7 @@ use Rattle.octets.specs.Lists.{every-none, every-more, total}
 use Rattle.aspath.specs.declared.Width.{Width}
 use Rattle.aspath.specs.declared.Width.the-variants.{Two, Four}
 use Rattle.aspath.specs.Members.{Segment, sequence, members}
-use Rattle.aspath.specs.Wire.{bytes}
+use Rattle.aspath.specs.Wire.{widthBytes}
 use Rattle.aspath.specs.Encodable.{EncodableSegment}
 use Rattle.attributes.specs.Attribute.{asPath, codeOf, firstOf, askPath}
 use Rattle.attributes.specs.Codes.{Twice}
@@ -39,7 +39,7 @@ sent w n = record {
 }
 
 -- a number has at most four bytes
-narrow : (w : Width) → bytes w ≤ 4
+narrow : (w : Width) → widthBytes w ≤ 4
 narrow Two = omega arith
 narrow Four = omega arith
 
@@ -52,8 +52,8 @@ header-short false = omega arith
 once : (n : ℕ) → Twice (map codeOf (asPath (segment n ∷ []) ∷ [])) → ⊥
 once n t = omega (arith, t .order, t .within)
 
-module _ (w : Width) (n : ℕ) (h : n < 256 ^ bytes w) where
-  encodable : EncodableSegment (bytes w) (segment n)
+module _ (w : Width) (n : ℕ) (h : n < 256 ^ widthBytes w) where
+  encodable : EncodableSegment (widthBytes w) (segment n)
   encodable = record { some = omega arith; few = omega arith; below = every-more h every-none }
 
   allowed : Allowed (sent w n)
@@ -68,7 +68,7 @@ module _ (w : Width) (n : ℕ) (h : n < 256 ^ bytes w) where
       attributes = every-more {a = asPath (segment n ∷ [])} (every-more encodable every-none, omega (arith, narrow w)) every-none;
       once = once n;
       announced = every-none;
-      limited = omega (arith, narrow w, header-short (ltb (bodyCost (bytes w) (asPath (segment n ∷ []))) 256));
+      limited = omega (arith, narrow w, header-short (ltb (bodyCost (widthBytes w) (asPath (segment n ∷ []))) 256));
     });
   }
 

@@ -9,7 +9,7 @@ use Rattle.octets.proofs.Writes.{both}
 use Rattle.network.specs.declared.Network.{Network}
 use Rattle.network.specs.Wire.{prefixSize, networkOf}
 use Rattle.network.proofs.Prefixes.{prefix-sizes}
-use Rattle.aspath.specs.Wire.{bytes}
+use Rattle.aspath.specs.Wire.{widthBytes}
 use Rattle.attributes.specs.Attribute.{Attribute}
 use Rattle.attributes.specs.Bodies.{attributesOf}
 use Rattle.message.specs.declared.Parts.{Parts}
@@ -66,8 +66,8 @@ closingOf p = closingFields (p .address) (p .peer) (p .seconds) (p .width)
 -- the line of what is announced and that of what is withdrawn, with no attributes, one after the other
 pub lines-written : {old mid new : List ℕ} {at q r : ℕ} (s : List ℕ) (p : Parts) {announced attributes withdrawn none : List ℕ}
     → announced ≡ partOf s (p .announced) → attributes ≡ partOf s (p .attributes) → withdrawn ≡ partOf s (p .withdrawn) → none ≡ []
-    → Written old at (lineOf 43 (networksOf announced) (attributesOf (bytes (p .width)) attributes) (closingOf p)) mid q
-    → Written mid q (lineOf 45 (networksOf withdrawn) (attributesOf (bytes (p .width)) none) (closingOf p)) new r
+    → Written old at (lineOf 43 (networksOf announced) (attributesOf (widthBytes (p .width)) attributes) (closingOf p)) mid q
+    → Written mid q (lineOf 45 (networksOf withdrawn) (attributesOf (widthBytes (p .width)) none) (closingOf p)) new r
     → Written old at (linesOf (messageAt s p)) new r
 unfolding linesOf messageAt itemsIn
 lines-written s p e f g h v w = both _ _ (rw (e, f) at v) (rw (g, h) at w)

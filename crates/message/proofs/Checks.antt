@@ -14,7 +14,7 @@ use Rattle.octets.proofs.Choices.{never, each}
 use Rattle.network.specs.Wire.{prefixSize}
 use Rattle.aspath.specs.declared.Width.{Width}
 use Rattle.aspath.specs.declared.Width.the-variants.{Two, Four}
-use Rattle.aspath.specs.Wire.{bytes}
+use Rattle.aspath.specs.Wire.{widthBytes}
 use Rattle.attributes.specs.Wire.{attributeSize, rawsOf, codes}
 use Rattle.attributes.specs.Codes.{distinct}
 use Rattle.attributes.specs.Bodies.{allRight}
@@ -135,7 +135,7 @@ pub record RightUpdate (w : Width) (b : List ℕ) : Type 0 where
   pub fits : 4 + withdrawnSize b + attributesSize b ≤ length b
   pub attributes-whole : whole attributeSize (attributesIn b) ≡ true
   pub attributes-once : distinct (codes (rawsOf (attributesIn b))) ≡ true
-  pub attributes-right : allRight (bytes w) (rawsOf (attributesIn b)) ≡ true
+  pub attributes-right : allRight (widthBytes w) (rawsOf (attributesIn b)) ≡ true
   pub withdrawn-whole : whole (prefixSize addressBits) (withdrawnIn b) ≡ true
   pub announced-whole : whole (prefixSize addressBits) (announcedIn b) ≡ true
 
@@ -160,12 +160,12 @@ unfolding wrongAttributes
 attributes-complete l h k = simp (h, k)
 
 -- the bodies are right where their check passes
-pub body-sound : (w : Width) (l : List ℕ) → wrongBody w l ≡ false → allRight (bytes w) (rawsOf l) ≡ true
+pub body-sound : (w : Width) (l : List ℕ) → wrongBody w l ≡ false → allRight (widthBytes w) (rawsOf l) ≡ true
 unfolding wrongBody
 body-sound w l e = not-false _ e
 
 -- their check passes where they are
-pub body-complete : (w : Width) (l : List ℕ) → allRight (bytes w) (rawsOf l) ≡ true → wrongBody w l ≡ false
+pub body-complete : (w : Width) (l : List ℕ) → allRight (widthBytes w) (rawsOf l) ≡ true → wrongBody w l ≡ false
 unfolding wrongBody
 body-complete w l h = simp h
 

@@ -15,7 +15,7 @@ use Rattle.network.specs.Wire.{PrefixBytes}
 use Rattle.network.proofs.Prefixes.{prefix-exists, prefix-length, prefix-below, prefix-clear}
 use Rattle.aspath.specs.declared.Width.{Width}
 use Rattle.aspath.specs.declared.Width.the-variants.{Two, Four}
-use Rattle.aspath.specs.Wire.{bytes}
+use Rattle.aspath.specs.Wire.{widthBytes}
 use Rattle.octets.proofs.Items.{sized-exist}
 use Rattle.attributes.specs.Encodable.{attributeCost}
 use Rattle.attributes.proofs.AttributesExist.{attributes-exist, attribute-encodable, attribute-least}
@@ -42,7 +42,7 @@ any-bytes w = record { long = bytes-length w 0; octets = bytes-octets w 0; value
 update-exists : {m : Message} → AllowedUpdate m → (l : List ℕ) × UpdateBytes m l × (frameHeader + length l ≤ messageLimit)
 update-exists {m} u =
     let x = networks-exist (u .withdrawn) in
-    let y = attributes-exist (bytes (m .width)) (u .attributes) in
+    let y = attributes-exist (widthBytes (m .width)) (u .attributes) in
     let z = networks-exist (u .announced) in
     let n = bytesOf 2 (length (x .0)) in
     let k = bytesOf 2 (length (y .0)) in (
@@ -95,7 +95,7 @@ frame-exists {m} h =
 -- what follows the header
 peer-exists : {m : Message} → Allowed m → (l : List ℕ) × PeerBytes m l × (length l < 256 ^ 4)
 peer-exists {m} h =
-    let w = bytes (m .width) in
+    let w = widthBytes (m .width) in
     let f = frame-exists h in (
       bytesOf w (m .peerAs) ++ (bytesOf w 0 ++ (bytesOf 2 0 ++ (bytesOf 2 ipv4 ++ (bytesOf 4 (m .peerAddress) ++ (bytesOf 4 0 ++ f .0))))),
       record {
@@ -159,7 +159,7 @@ networks-length j = joined-length networkCost (λ n bytes p. prefix-length addre
 -- the body of an UPDATE
 update-allowed : {m : Message} {l : List ℕ} → UpdateBytes m l → frameHeader + length l ≤ messageLimit → AllowedUpdate m
 update-allowed {m} u h =
-    let w = bytes (m .width) in
+    let w = widthBytes (m .width) in
     let e = ap length (u .joined) in
     record {
       withdrawn = networks-allowed (u .withdrawn-are);

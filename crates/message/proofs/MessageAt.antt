@@ -6,7 +6,7 @@ use mathlib.Core.List.{List, []}
 use lib.ListN.{length, take, drop, length-drop}
 use lib.Seq.{take-all, drop-drop}
 use Rattle.aspath.specs.declared.Width.{Width}
-use Rattle.aspath.specs.Wire.{bytes}
+use Rattle.aspath.specs.Wire.{widthBytes}
 use Rattle.attributes.specs.Bodies.{attributesOf}
 use Rattle.message.specs.Message.{Message, update}
 use Rattle.octets.specs.Header.{secondsField}
@@ -22,7 +22,7 @@ messageWith w s kind withdrawn attributes announced = record {
   peerAddress = peerAddressField w s;
   kind = kind;
   withdrawn = networksOf withdrawn;
-  attributes = attributesOf (bytes w) attributes;
+  attributes = attributesOf (widthBytes w) attributes;
   announced = networksOf announced;
 }
 

@@ -7,7 +7,7 @@ use lib.ListN.{length, take, drop, length-append, length-drop}
 use Rattle.octets.specs.Numbers.{Octets}
 use Rattle.aspath.specs.declared.Width.{Width}
 use Rattle.aspath.specs.declared.Width.the-variants.{Two, Four}
-use Rattle.aspath.specs.Wire.{bytes}
+use Rattle.aspath.specs.Wire.{widthBytes}
 use Rattle.message.specs.Message.{Message}
 use Rattle.message.specs.Represents.{ipv4, bgp4mp, subtypeOf, FrameBytes, Represents}
 use Rattle.octets.specs.Header.{headerSize, secondsField, typeField, subtypeField, lengthField}
@@ -15,7 +15,7 @@ use Rattle.message.specs.Fields.{frameStart, peerAsField, familyField, p
 use Rattle.message.proofs.Places.{Stands, field-here, after, cut, field-of, free-cut}
 
 -- an AS number has at most four bytes
-pub width-most : (w : Width) → bytes w ≤ 4
+pub width-most : (w : Width) → widthBytes w ≤ 4
 width-most Two = omega arith
 width-most Four = omega arith
 
@@ -34,7 +34,7 @@ pub record RecordFields (m : Message) (s : List ℕ) : Type 0 where
 -- a message's record has its numbers at their places
 pub represents-fields : {m : Message} {s : List ℕ} → Represents m s → RecordFields m s
 represents-fields {m} {s} r =
-    let w = bytes (m .width) in
+    let w = widthBytes (m .width) in
     let start = frameStart (m .width) in
     let p = r .rest-is in
     let s0 : Stands s 0 (r .seconds) (r .type ++ (r .subtype ++ (r .size ++ r .rest))) = record { cut = r .joined } in
@@ -73,7 +73,7 @@ represents-fields {m} {s} r =
 -- bytes with a message's numbers at their places are its record
 pub fields-represent : {m : Message} {s : List ℕ} → Octets s → RecordFields m s → Represents m s
 fields-represent {m} {s} o f =
-    let w = bytes (m .width) in
+    let w = widthBytes (m .width) in
     let start = frameStart (m .width) in
     let h = f .fits in
     record {

@@ -13,7 +13,7 @@ use Rattle.octets.specs.Rows.{itemsIn}
 use Rattle.octets.proofs.Bytes.{octets-drop}
 use Rattle.aspath.specs.declared.Width.{Width}
 use Rattle.aspath.specs.declared.Width.the-variants.{Two, Four}
-use Rattle.aspath.specs.Wire.{bytes}
+use Rattle.aspath.specs.Wire.{widthBytes}
 use Rattle.attributes.specs.Bodies.{attributesOf}
 use Rattle.message.specs.declared.Parts.{Parts}
 use Rattle.message.specs.declared.Decoded.the-variants.{Read}
@@ -52,7 +52,7 @@ parts-other w s n = simp (ne-eqb _ _ n)
 
 -- a message of a record's numbers is the one whose record it is, where its type and its lists are
 with-fields : {m : Message} {s : List ℕ} → RecordFields m s → {kind : ℕ} (withdrawn attributes announced : List ℕ) → kind ≡ m .kind
-    → networksOf withdrawn ≡ m .withdrawn → attributesOf (bytes (m .width)) attributes ≡ m .attributes → networksOf announced ≡ m .announced
+    → networksOf withdrawn ≡ m .withdrawn → attributesOf (widthBytes (m .width)) attributes ≡ m .attributes → networksOf announced ≡ m .announced
     → messageWith (m .width) s kind withdrawn attributes announced ≡ m
 with-fields {m} f withdrawn attributes announced k x y z =
     λ i. record {

@@ -6,7 +6,7 @@ use Rattle.octets.specs.Lists.{Every, total}
 use Rattle.network.specs.declared.Network.{Network}
 use Rattle.network.specs.Networks.{masked}
 use Rattle.network.specs.Wire.{bytesFor}
-use Rattle.aspath.specs.Wire.{bytes}
+use Rattle.aspath.specs.Wire.{widthBytes}
 use Rattle.attributes.specs.Attribute.{codeOf}
 use Rattle.attributes.specs.Codes.{Twice}
 use Rattle.attributes.specs.Encodable.{EncodableAttribute, attributeCost}
@@ -25,12 +25,12 @@ networkCost n = 1 + bytesFor (n .len)
 
 -- the bytes of the body of an UPDATE, its attributes at their shortest
 abbrev pub updateCost : Message → ℕ
-updateCost m = 4 + total networkCost (m .withdrawn) + total (attributeCost (bytes (m .width))) (m .attributes) + total networkCost (m .announced)
+updateCost m = 4 + total networkCost (m .withdrawn) + total (attributeCost (widthBytes (m .width))) (m .attributes) + total networkCost (m .announced)
 
 -- an UPDATE that has a body: no code comes twice, and all of it fits
 pub record AllowedUpdate (m : Message) : Type 0 where
   pub withdrawn : Every AllowedNetwork (m .withdrawn)
-  pub attributes : Every (EncodableAttribute (bytes (m .width))) (m .attributes)
+  pub attributes : Every (EncodableAttribute (widthBytes (m .width))) (m .attributes)
   pub once : Twice (map codeOf (m .attributes)) → ⊥
   pub announced : Every AllowedNetwork (m .announced)
   pub limited : frameHeader + updateCost m ≤ messageLimit
@@ -49,7 +49,7 @@ pub data AllowedBody (m : Message) : Type 0 where
 -- a message that has a record: its numbers fit their fields, and its body fits
 pub record Allowed (m : Message) : Type 0 where
   pub seconds : m .seconds < 2 ^ 32
-  pub peerAs : m .peerAs < 256 ^ bytes (m .width)
+  pub peerAs : m .peerAs < 256 ^ widthBytes (m .width)
   pub peerAddress : m .peerAddress < 2 ^ 32
   pub kind : m .kind < 256
   pub body : AllowedBody m

@@ -11,7 +11,7 @@ use Rattle.network.specs.declared.Network.{Network}
 use Rattle.network.specs.Wire.{prefixSize, networkOf}
 use Rattle.aspath.specs.declared.Width.{Width}
 use Rattle.aspath.specs.declared.Width.the-variants.{Two, Four}
-use Rattle.aspath.specs.Wire.{bytes}
+use Rattle.aspath.specs.Wire.{widthBytes}
 use Rattle.attributes.specs.Wire.{rawsOf}
 use Rattle.attributes.specs.Codes.{isSound}
 use Rattle.attributes.specs.Bodies.{allRight, attributesOf}
@@ -45,7 +45,7 @@ messageAt s p = record {
   peerAddress = p .address;
   kind = p .kind;
   withdrawn = networksOf (partOf s (p .withdrawn));
-  attributes = attributesOf (bytes (p .width)) (partOf s (p .attributes));
+  attributes = attributesOf (widthBytes (p .width)) (partOf s (p .attributes));
   announced = networksOf (partOf s (p .announced));
 }
 
@@ -86,7 +86,7 @@ unfoldable pub wrongAttributes : List ℕ → Bool
 wrongAttributes l = not (isSound l)
 
 unfoldable pub wrongBody : Width → List ℕ → Bool
-wrongBody w l = not (allRight (bytes w) (rawsOf l))
+wrongBody w l = not (allRight (widthBytes w) (rawsOf l))
 
 unfoldable pub wrongPrefix : List ℕ → List ℕ → Bool
 wrongPrefix withdrawn announced =

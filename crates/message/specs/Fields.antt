@@ -9,7 +9,7 @@ use Rattle.octets.specs.Header.{headerSize, subtypeField}
 use Rattle.octets.specs.Parts.{partAt}
 use Rattle.aspath.specs.declared.Width.{Width}
 use Rattle.aspath.specs.declared.Width.the-variants.{Two, Four}
-use Rattle.aspath.specs.Wire.{bytes}
+use Rattle.aspath.specs.Wire.{widthBytes}
 use Rattle.message.specs.Represents.{markerSize, frameHeader, subtypeOf}
 
 -- the width of the AS numbers, by the subtype
@@ -19,17 +19,17 @@ widthOf s = pick (eqb (subtypeField s) (subtypeOf Two)) Two Four
 -- the peer part, at a width: two AS numbers, the interface (2), the family (2), two addresses (4 each)
 
 abbrev pub peerAsField : Width → List ℕ → ℕ
-peerAsField w s = numberAt s headerSize (bytes w)
+peerAsField w s = numberAt s headerSize (widthBytes w)
 
 abbrev pub familyField : Width → List ℕ → ℕ
-familyField w s = numberAt s (headerSize + 2 * bytes w + 2) 2
+familyField w s = numberAt s (headerSize + 2 * widthBytes w + 2) 2
 
 abbrev pub peerAddressField : Width → List ℕ → ℕ
-peerAddressField w s = numberAt s (headerSize + 2 * bytes w + 4) 4
+peerAddressField w s = numberAt s (headerSize + 2 * widthBytes w + 4) 4
 
 -- what follows it
 abbrev pub frameStart : Width → ℕ
-frameStart w = headerSize + 2 * bytes w + 12
+frameStart w = headerSize + 2 * widthBytes w + 12
 
 -- the BGP message: sixteen bytes of marker, its length, its type, its body
 

@@ -8,7 +8,7 @@ use Rattle.octets.specs.Rows.{Joined}
 use Rattle.network.specs.declared.Network.{Network}
 use Rattle.network.specs.Wire.{PrefixBytes}
 use Rattle.aspath.specs.declared.Width.{Width}
-use Rattle.aspath.specs.Wire.{bytes}
+use Rattle.aspath.specs.Wire.{widthBytes}
 use Rattle.attributes.specs.Wire.{Raw, RawBytes, codes}
 use Rattle.attributes.specs.Codes.{Twice}
 use Rattle.attributes.specs.Bodies.{SomeWrong}
@@ -100,7 +100,7 @@ rows =
     ∷ row Frame (λ s. WrongFrame (frame (widthOf s) s))
     ∷ row Sections (InUpdate WrongSections)
     ∷ row Attributes (InUpdate (λ b. WrongAttributes (attributesIn b)))
-    ∷ row Body (λ s. InUpdate (λ b. WrongBody (bytes (widthOf s)) (attributesIn b)) s)
+    ∷ row Body (λ s. InUpdate (λ b. WrongBody (widthBytes (widthOf s)) (attributesIn b)) s)
     ∷ row Prefix (InUpdate (λ b. WrongPrefix (withdrawnIn b) (announcedIn b)))
     ∷ []
 

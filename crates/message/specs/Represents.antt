@@ -9,7 +9,7 @@ use Rattle.octets.specs.Rows.{Joined}
 use Rattle.network.specs.Wire.{PrefixBytes}
 use Rattle.aspath.specs.declared.Width.{Width}
 use Rattle.aspath.specs.declared.Width.the-variants.{Two, Four}
-use Rattle.aspath.specs.Wire.{bytes}
+use Rattle.aspath.specs.Wire.{widthBytes}
 use Rattle.attributes.specs.Attribute.{codeOf}
 use Rattle.attributes.specs.Bodies.{AttributeBytes}
 use Rattle.attributes.specs.Codes.{Twice}
@@ -54,7 +54,7 @@ pub record UpdateBytes (m : Message) (l : List ℕ) : Type 0 where
   pub withdrawn-sized : Field 2 (length withdrawn) withdrawnSize
   pub withdrawn-are : Joined (PrefixBytes addressBits) (m .withdrawn) withdrawn
   pub attributes-sized : Field 2 (length attributes) attributesSize
-  pub attributes-are : Joined (AttributeBytes (bytes (m .width))) (m .attributes) attributes
+  pub attributes-are : Joined (AttributeBytes (widthBytes (m .width))) (m .attributes) attributes
   pub once : Twice (map codeOf (m .attributes)) → ⊥
   pub announced-are : Joined (PrefixBytes addressBits) (m .announced) announced
 
@@ -91,8 +91,8 @@ pub record PeerBytes (m : Message) (l : List ℕ) : Type 0 where
   pub localAddress : List ℕ
   pub frame : List ℕ
   pub joined : l ≡ peerAs ++ (localAs ++ (interface ++ (family ++ (peerAddress ++ (localAddress ++ frame)))))
-  pub peerAs-is : Field (bytes (m .width)) (m .peerAs) peerAs
-  pub localAs-free : Free (bytes (m .width)) localAs
+  pub peerAs-is : Field (widthBytes (m .width)) (m .peerAs) peerAs
+  pub localAs-free : Free (widthBytes (m .width)) localAs
   pub interface-free : Free 2 interface
   pub family-is : Field 2 ipv4 family
   pub peerAddress-is : Field 4 (m .peerAddress) peerAddress
