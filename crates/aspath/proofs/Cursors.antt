@@ -7,10 +7,8 @@ use mathlib.Core.Path.{_≡_, refl, sym, ap, _∙_}
 use mathlib.Core.List.{List, [], _∷_, _++_}
 use lib.ListN.{length, getD, drop, length-drop}
 use lib.Seq.{getD-drop, drop-drop}
-use lib.Dec.{leb, eqb·suc-zero}
+use lib.Dec.{eqb·suc-zero}
 use borrow.Author.Tests.{le-leb, lt-leb, eq-eqb, ne-eqb}
-use Rattle.octets.specs.Choice.{pick}
-use Rattle.octets.specs.Numbers.{numberAt}
 use Rattle.octets.proofs.Numbers.{number-drop}
 use Rattle.octets.proofs.Rows.{items-end, items-next}
 use Rattle.aspath.specs.declared.Cursor.{Cursor}
@@ -18,17 +16,8 @@ use Rattle.aspath.specs.declared.Next.{Next}
 use Rattle.aspath.specs.declared.Next.the-variants as next
 use Rattle.aspath.specs.Members.{Member, members}
 use Rattle.aspath.specs.Wire.{segmentSize, segmentOf, numbersIn, membersOf}
-use Rattle.aspath.specs.Cursors.{nextAt}
+use Rattle.aspath.specs.Cursors.{numbersFrom, remaining, nextAt}
 use Rattle.aspath.proofs.Segments.{Stands, stands-size, size-stands, segment-sizes}
-
--- the numbers at a place, as many as asked for and there
-unfoldable pub numbersFrom : ℕ → List ℕ → ℕ → ℕ → List Member
-numbersFrom w s at zero = []
-numbersFrom w s at (suc n) = pick (leb (at + w) (length s)) (numberAt s at w ∷ numbersFrom w s (at + w) n) []
-
--- the members from a cursor on: the numbers left in its segment, and those of the segments after it
-unfoldable pub remaining : ℕ → List ℕ → Cursor → List Member
-remaining w s c = numbersFrom w s (c .at) (c .left) ++ membersOf w (drop (c .at + c .left * w) s)
 
 module _ (w : ℕ) where
   -- where no segment stands, there are no members

@@ -1,8 +1,8 @@
--- Segments are read back from their bytes, those read are what the bytes say, and every segment has bytes. Assumes nothing.
-use Prim.Native.Nat.{ℕ, _+_, _*_, _^_, _≤_, _<_}
+-- Segments are read back from their bytes, those read are what the bytes say, and just the encodable ones have bytes. Assumes nothing.
+use Prim.Native.Nat.{ℕ, _+_, _*_, _≤_}
 use native.Mathlib.Nat.{add-mul}
 use native.Mathlib.Omega.{arith}
-use mathlib.Core.Path.{_≡_, refl, sym, ap, _∙_}
+use mathlib.Core.Path.{_≡_, refl, ap, _∙_}
 use mathlib.Core.List.{List, [], _∷_, _++_}
 use mathlib.Core.Logic.{_⊎_, inl, inr}
 use lib.ListN.{length, getD, take, drop, length-append, length-drop}
@@ -10,18 +10,17 @@ use lib.Seq.{take-add}
 use lib.Dec.{eqb}
 use Rattle.octets.specs.Choice.{pick}
 use Rattle.octets.specs.Numbers.{Octets, Field, bytesOf}
+use Rattle.octets.specs.Lists.{Every, total}
 use Rattle.octets.specs.Rows.{Joined}
 use Rattle.octets.proofs.Bytes.{octets-drop}
-use Rattle.octets.proofs.Rows.{Reads, total, items-cost}
+use Rattle.octets.proofs.Rows.{Reads, items-cost}
 use Rattle.aspath.specs.Members.{Kind, set, sequence, Segment, members}
+use Rattle.aspath.specs.Encodable.{segmentCost, EncodableSegment}
 use Rattle.aspath.specs.Wire.{kindCode, SegmentBytes, segmentSize, segmentOf, segmentsOf}
-use Rattle.octets.proofs.Encode.{bytes-field, Every, every-at, joined-exist, joined-length}
+use Rattle.octets.proofs.Fields.{field-below}
+use Rattle.octets.proofs.Encode.{bytes-field, joined-exist, joined-length, joined-every}
 use Rattle.aspath.proofs.Segments.{Stands, stands-size, size-stands, segment-sizes}
 use Rattle.aspath.proofs.NumberReads.{numbers-length, numbers-bytes, numbers-same, numbers-sound}
-
--- the bytes of a segment
-abbrev pub segmentCost : ℕ → Segment → ℕ
-segmentCost w s = 2 + length (s .numbers) * w
 
 -- the code of a kind is one of the two, is read as that kind, and is that of the kind read
 kind-code : (k : Kind) → (kindCode k ≡ 1) ⊎ (kindCode k ≡ 2)
@@ -39,6 +38,10 @@ kind-sound (inr e) = rw e refl
 -- the bytes of a segment are as many as its numbers ask for
 pub segment-length : (w : ℕ) {s : Segment} {bytes : List ℕ} → SegmentBytes w s bytes → length bytes ≡ segmentCost w s
 segment-length w x = ap length (x .joined) ∙ omega (arith, numbers-bytes w (x .numbers))
+
+-- and so are those of segments one after another
+pub segments-length : (w : ℕ) {ss : List Segment} {bytes : List ℕ} → Joined (SegmentBytes w) ss bytes → length bytes ≡ total (segmentCost w) ss
+segments-length w j = joined-length (segmentCost w) (λ s bytes x. segment-length w x) j
 
 -- a segment stands at the front of its bytes and what follows
 segment-stands : (w : ℕ) {s : Segment} {bytes : List ℕ} → SegmentBytes w s bytes → (rest : List ℕ) → Stands w (bytes ++ rest) 0
@@ -105,28 +108,20 @@ members-count w l = omega (arith, items-cost (segmentSize w) (segmentOf w) (segm
     each : (l : List ℕ) → (segmentSize w l ≡ 0 → ⊥) → segmentCost w (segmentOf w l) ≤ 1 * segmentSize w l
     each l n = rw (stands-size w l 0 (size-stands w l 0 n)) (unfold segmentOf in rw (numbers-length w (getD l 1 0) (drop 2 l)) (omega arith))
 
--- ---- every segment has bytes
+-- ---- the segments that have bytes
 
--- a segment that has bytes: its numbers are 1 to 255, each of w bytes
-pub record Encodable (w : ℕ) (s : Segment) : Type 0 where
-  pub some : 1 ≤ length (s .numbers)
-  pub few : length (s .numbers) < 256
-  pub below : (i : ℕ) → getD (s .numbers) i 0 < 256 ^ w
+-- a segment that has bytes is encodable
+pub segment-encodable : (w : ℕ) {s : Segment} {bytes : List ℕ} → SegmentBytes w s bytes → EncodableSegment w s
+segment-encodable w x = record { some = x .some; few = x .few; below = joined-every (λ n bytes f. field-below f) (x .numbers) }
 
--- the bytes of a segment, and that they are
-segment-bytes : (w : ℕ) (s : Segment) → Encodable w s → (bytes : List ℕ) × SegmentBytes w s bytes
+-- an encodable segment has bytes
+segment-bytes : (w : ℕ) (s : Segment) → EncodableSegment w s → (bytes : List ℕ) × SegmentBytes w s bytes
 segment-bytes w s x = (kindCode (s .kind) ∷ length (s .numbers) ∷ body .0, record { some = x .some; few = x .few; body = body .0; joined = refl; numbers = body .1 })
   where
     body : (bytes : List ℕ) × Joined (Field w) (s .numbers) bytes
-    body = joined-exist (λ n h. (bytesOf w n, bytes-field w n h)) (every-at {P = λ n. n < 256 ^ w} (s .numbers) (x .below))
-
--- such a segment has bytes
-pub segment-exists : (w : ℕ) (s : Segment) → Encodable w s → (bytes : List ℕ) × SegmentBytes w s bytes × (length bytes ≡ segmentCost w s)
-segment-exists w s x = let b = segment-bytes w s x in (b .0, b .1, segment-length w (b .1))
+    body = joined-exist (λ n h. (bytesOf w n, bytes-field w n h)) (x .below)
 
 -- and so have such segments one after another
-pub segments-exist : (w : ℕ) {ss : List Segment} → Every (Encodable w) ss
+pub segments-exist : (w : ℕ) {ss : List Segment} → Every (EncodableSegment w) ss
     → (bytes : List ℕ) × Joined (SegmentBytes w) ss bytes × (length bytes ≡ total (segmentCost w) ss)
-segments-exist w xs =
-    let b = joined-exist (segment-bytes w) xs in
-    (b .0, b .1, joined-length (segmentCost w) (λ s bytes x. segment-length w x) (b .1))
+segments-exist w xs = let b = joined-exist (segment-bytes w) xs in (b .0, b .1, segments-length w (b .1))

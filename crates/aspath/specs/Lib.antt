@@ -1,5 +1,6 @@
 pub mod Members
 pub mod Wire
+pub mod Encodable
 pub mod Cursors
 pub mod Loops
 pub mod Bogons

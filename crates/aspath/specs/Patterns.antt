@@ -1,5 +1,4 @@
 -- `-aspath`: items that match neighbouring members of the path, pinned to its ends by `^` and `$` or not.
-use Prim.Native.Nat.{ℕ}
 use mathlib.Core.Path.{_≡_}
 use mathlib.Core.Bool.{Bool, true, false, not}
 use mathlib.Core.List.{List, [], _∷_, _++_}

@@ -1,10 +1,10 @@
 -- The body of an AS_PATH (RFC 4271, section 4.3), over the width w of an AS number in bytes.
 use Prim.Native.Nat.{ℕ, zero, suc, _+_, _*_, _≤_, _<_}
 use mathlib.Core.Path.{_≡_}
-use mathlib.Core.Bool.{Bool, true, false}
-use mathlib.Core.List.{List, [], _∷_, _++_}
+use mathlib.Core.Bool.{Bool, true}
+use mathlib.Core.List.{List, [], _∷_}
 use lib.ListN.{length, getD, drop}
-use lib.Dec.{leb, ltb, eqb}
+use lib.Dec.{ltb, eqb}
 use Rattle.octets.specs.Choice.{pick}
 use Rattle.octets.specs.Numbers.{numberAt, Field}
 use Rattle.octets.specs.Rows.{Joined, items}
@@ -13,9 +13,9 @@ use Rattle.aspath.specs.declared.Width.the-variants.{Two, Four}
 use Rattle.aspath.specs.Members.{Kind, set, sequence, Segment, Member, members}
 
 -- AS numbers are of two bytes or four
-abbrev pub bytes : Width → ℕ
-bytes Two = 2
-bytes Four = 4
+abbrev pub widthBytes : Width → ℕ
+widthBytes Two = 2
+widthBytes Four = 4
 
 -- the type of a segment
 abbrev pub kindCode : Kind → ℕ

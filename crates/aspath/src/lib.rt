@@ -3,7 +3,7 @@ ghost use mathlib.Core.Path.{_≡_};
 ghost use Prim.Native.Nat.{_≤_};
 ghost use lib.ListN.{drop};
 ghost use Rattle.octets.specs.Rows.{whole};
-ghost use Rattle.aspath.specs.Wire.{bytes, segmentSize, membersOf};
+ghost use Rattle.aspath.specs.Wire.{widthBytes, segmentSize, membersOf};
 ghost use Rattle.aspath.specs.Cursors.{nextAt};
 ghost use Rattle.aspath.specs.Loops.{hasLoop};
 ghost use Rattle.aspath.specs.Bogons.{isBogon, someBogon};
@@ -77,7 +77,7 @@ const BOGONS: [Range; 9] = [
 ];
 
 pub fn width_bytes(width: Width) -> usize
-    ensures { λ r. ⌜ (r ≡ bytes width) × (r ≤ 4) ⌝ }
+    ensures { λ r. ⌜ (r ≡ widthBytes width) × (r ≤ 4) ⌝ }
 {
     match width {
         Width::Two => 2,
@@ -114,7 +114,7 @@ fn sized_segment(s: &[u8], at: usize, width: usize) -> usize
 }
 
 pub fn segment_size(s: &[u8], at: usize, width: Width) -> usize
-    ensures { λ r. ⌜ r ≡ segmentSize (bytes width) (drop at (now (s .entry))) ⌝ }
+    ensures { λ r. ⌜ r ≡ segmentSize (widthBytes width) (drop at (now (s .entry))) ⌝ }
 {
     let w = width_bytes(width);
     sized_segment(s, at, w)
@@ -122,7 +122,7 @@ pub fn segment_size(s: &[u8], at: usize, width: Width) -> usize
 
 // Whether a body is segments to its end.
 pub fn well_formed(s: &[u8], width: Width) -> bool
-    ensures { λ r. ⌜ r ≡ whole (segmentSize (bytes width)) (now (s .entry)) ⌝ }
+    ensures { λ r. ⌜ r ≡ whole (segmentSize (widthBytes width)) (now (s .entry)) ⌝ }
 {
     let w = width_bytes(width);
     let mut at = 0;
@@ -175,7 +175,7 @@ fn next_member(s: &[u8], c: Cursor, width: usize) -> Next
 
 // The member at a cursor, and the cursor after it. A path starts at the cursor 0, 0.
 pub fn member_at(s: &[u8], c: Cursor, width: Width) -> Next
-    ensures { λ r. ⌜ r ≡ nextAt (bytes width) (now (s .entry)) c ⌝ }
+    ensures { λ r. ⌜ r ≡ nextAt (widthBytes width) (now (s .entry)) c ⌝ }
 {
     let w = width_bytes(width);
     next_member(s, c, w)
@@ -183,7 +183,7 @@ pub fn member_at(s: &[u8], c: Cursor, width: Width) -> Next
 
 // Whether some number returns after another: the search is left at the first loop found.
 pub fn loops(s: &[u8], width: Width) -> bool
-    ensures { λ r. ⌜ r ≡ hasLoop (membersOf (bytes width) (now (s .entry))) ⌝ }
+    ensures { λ r. ⌜ r ≡ hasLoop (membersOf (widthBytes width) (now (s .entry))) ⌝ }
 {
     let w = width_bytes(width);
     let mut found = false;
@@ -233,7 +233,7 @@ pub fn bogon(n: u32) -> bool
 
 // Whether some number of the path is a bogon.
 pub fn has_bogon(s: &[u8], width: Width) -> bool
-    ensures { λ r. ⌜ r ≡ someBogon (membersOf (bytes width) (now (s .entry))) ⌝ }
+    ensures { λ r. ⌜ r ≡ someBogon (membersOf (widthBytes width) (now (s .entry))) ⌝ }
 {
     let w = width_bytes(width);
     let mut c = Cursor { at: 0, left: 0 };

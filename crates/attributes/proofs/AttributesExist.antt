@@ -1,44 +1,26 @@
--- Every list of attributes whose contents fit has bytes. Assumes nothing.
-use Prim.Native.Nat.{ℕ, _^_, _≤_, _<_}
+-- Just the attributes whose contents fit have bytes. Assumes nothing.
+use Prim.Native.Nat.{ℕ, _≤_, _<_}
 use native.Mathlib.Omega.{arith}
-use mathlib.Core.Path.{_≡_, refl, ap, _∙_}
+use mathlib.Core.Path.{_≡_, refl, sym, ap, _∙_}
 use mathlib.Core.List.{List, [], _∷_}
 use lib.ListN.{length}
 use Rattle.octets.specs.Numbers.{Octets, bytesOf}
+use Rattle.octets.specs.Lists.{Every, total}
 use Rattle.octets.specs.Rows.{Joined}
 use Rattle.octets.proofs.Bytes.{octets-none, octets-append}
-use Rattle.octets.proofs.Rows.{total}
 use Rattle.aspath.specs.Members.{Kind, set, sequence, Segment}
 use Rattle.aspath.specs.Wire.{kindCode, SegmentBytes}
-use Rattle.aspath.proofs.SegmentReads.{Encodable as EncodableSegment, segmentCost, segments-exist}
+use Rattle.aspath.proofs.SegmentReads.{segment-encodable, segments-length, segments-exist}
 use Rattle.attributes.specs.Attribute.{Attribute, origin, asPath, nextHop, atomicAggregate, other, codeOf}
+use Rattle.attributes.specs.Encodable.{bodyCost, withHeader, attributeCost, EncodableAttribute}
 use Rattle.attributes.specs.Wire.{Raw}
-use Rattle.attributes.specs.Bodies.{Unchecked, HasBody, AttributeBytes}
-use Rattle.octets.proofs.Encode.{bytes-field, octets-one, Every}
+use Rattle.attributes.specs.Bodies.{HasBody, AttributeBytes}
+use Rattle.octets.proofs.Fields.{field-below}
+use Rattle.octets.proofs.Encode.{bytes-field, octets-one, joined-every}
 use Rattle.octets.proofs.Items.{joined-octets, sized-exist}
-use Rattle.attributes.proofs.RawReads.{withHeader, raw-exists}
+use Rattle.attributes.proofs.RawReads.{raw-short, raw-least, raw-exists}
 
--- an attribute that has bytes
-abbrev pub Encodable : ℕ → Attribute → Type 0
-Encodable w (origin n) = n ≤ 2
-Encodable w (asPath segments) = Every (EncodableSegment w) segments × (total (segmentCost w) segments < 65536)
-Encodable w (nextHop a) = a < 2 ^ 32
-Encodable w atomicAggregate = Unit {0}
-Encodable w (other code body) = Unchecked code × (code < 256) × Octets body × (length body < 65536)
-
--- the bytes of its body
-unfoldable pub bodyCost : ℕ → Attribute → ℕ
-bodyCost w (origin n) = 1
-bodyCost w (asPath segments) = total (segmentCost w) segments
-bodyCost w (nextHop a) = 4
-bodyCost w atomicAggregate = 0
-bodyCost w (other code body) = length body
-
--- all its bytes
-abbrev pub attributeCost : ℕ → Attribute → ℕ
-attributeCost w a = withHeader (bodyCost w a)
-
-code-below : (w : ℕ) (a : Attribute) → Encodable w a → codeOf a < 256
+code-below : (w : ℕ) (a : Attribute) → EncodableAttribute w a → codeOf a < 256
 unfolding codeOf
 code-below w (origin n) h = omega arith
 code-below w (asPath segments) h = omega arith
@@ -46,7 +28,7 @@ code-below w (nextHop a) h = omega arith
 code-below w atomicAggregate h = omega arith
 code-below w (other code body) h = h .1
 
-body-below : (w : ℕ) (a : Attribute) → Encodable w a → bodyCost w a < 65536
+body-below : (w : ℕ) (a : Attribute) → EncodableAttribute w a → bodyCost w a < 65536
 unfolding bodyCost
 body-below w (origin n) h = omega arith
 body-below w (asPath segments) h = h .1
@@ -66,7 +48,7 @@ segment-octets {w} {s} x =
     (octets-append (octets-one (length (s .numbers)) (x .few)) (joined-octets (λ n bytes f. f .octets) (x .numbers))))
 
 module _ (w : ℕ) where
-  body-exists : (a : Attribute) → Encodable w a → (body : List ℕ) × HasBody w a body × Octets body × (length body ≡ bodyCost w a)
+  body-exists : (a : Attribute) → EncodableAttribute w a → (body : List ℕ) × HasBody w a body × Octets body × (length body ≡ bodyCost w a)
   unfolding bodyCost
   body-exists (origin n) h = (n ∷ [], (h, refl), octets-one n (omega arith), refl)
   body-exists (asPath segments) h =
@@ -76,8 +58,8 @@ module _ (w : ℕ) where
   body-exists atomicAggregate h = ([], refl, octets-none, refl)
   body-exists (other code body) h = (body, (h .0, refl), h .2, refl)
 
-  -- such an attribute has bytes
-  pub attribute-exists : (a : Attribute) → Encodable w a → (bytes : List ℕ) × AttributeBytes w a bytes × (length bytes ≡ attributeCost w a)
+  -- an encodable attribute has bytes
+  pub attribute-exists : (a : Attribute) → EncodableAttribute w a → (bytes : List ℕ) × AttributeBytes w a bytes × (length bytes ≡ attributeCost w a)
   attribute-exists a h = go (body-exists a h)
     where
       go : (body : List ℕ) × HasBody w a body × Octets body × (length body ≡ bodyCost w a)
@@ -88,6 +70,34 @@ module _ (w : ℕ) where
           (x .0, record { raw = r; wire = x .1; says = record { coded = refl; body = b .1 } }, x .2 ∙ ap withHeader (b .3))
 
   -- and so have such attributes one after another
-  pub attributes-exist : {attributes : List Attribute} → Every (Encodable w) attributes
+  pub attributes-exist : {attributes : List Attribute} → Every (EncodableAttribute w) attributes
       → (bytes : List ℕ) × Joined (AttributeBytes w) attributes bytes × (length bytes ≡ total (attributeCost w) attributes)
   attributes-exist h = sized-exist attribute-exists h
+
+  -- a body is as long as what it says asks for
+  body-long : (a : Attribute) (body : List ℕ) → HasBody w a body → length body ≡ bodyCost w a
+  unfolding bodyCost
+  body-long (origin n) body h = ap length (h .1)
+  body-long (asPath segments) body h = segments-length w h
+  body-long (nextHop a) body h = h .long
+  body-long atomicAggregate body h = ap length h
+  body-long (other code bytes) body h = ap length (h .1)
+
+  body-encodable : (a : Attribute) (r : Raw) → codeOf a ≡ r .code → HasBody w a (r .body) → r .code < 256 → Octets (r .body) → length (r .body) < 65536
+      → EncodableAttribute w a
+  unfolding codeOf
+  body-encodable (origin n) r e h c o l = h .0
+  body-encodable (asPath segments) r e h c o l = (joined-every (λ s bytes x. segment-encodable w x) h, omega (arith, segments-length w h))
+  body-encodable (nextHop a) r e h c o l = field-below h
+  body-encodable atomicAggregate r e h c o l = tt
+  body-encodable (other code body) r e h c o l =
+      (h .0, rw (sym e) at c, rw (h .1) at o, rw (h .1) at l)
+
+  -- an attribute that has bytes is encodable
+  pub attribute-encodable : {a : Attribute} {bytes : List ℕ} → AttributeBytes w a bytes → EncodableAttribute w a
+  attribute-encodable {a} x =
+      body-encodable a (x .raw) (x .says .coded) (x .says .body) (x .wire .code-byte) (x .wire .octets) (raw-short (x .wire))
+
+  -- and its bytes are no fewer than it costs
+  pub attribute-least : {a : Attribute} {bytes : List ℕ} → AttributeBytes w a bytes → attributeCost w a ≤ length bytes
+  attribute-least {a} x = rw (body-long a (x .raw .body) (x .says .body)) at (raw-least (x .wire))

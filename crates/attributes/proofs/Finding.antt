@@ -8,7 +8,7 @@ use lib.ListN.{length, getD, drop, length-drop}
 use borrow.Author.Tests.{eq-eqb, ne-eqb}
 use Rattle.attributes.specs.declared.Found.{Found}
 use Rattle.attributes.specs.declared.Found.the-variants.{At, Absent}
-use Rattle.attributes.specs.Wire.{headerSize, bodySize, attributeSize}
+use Rattle.attributes.specs.Wire.{attributeHeader, bodySize, attributeSize}
 use Rattle.attributes.specs.Finding.{findIn}
 use Rattle.attributes.proofs.Sizes.{attribute-sizes}
 
@@ -49,7 +49,7 @@ module _ (code : ℕ) where
     find-end z = none-found (length l) at l z
 
     -- one with the code does
-    pub find-here : (attributeSize l ≡ 0 → ⊥) → getD l 1 0 ≡ code → findFrom at l ≡ At (at + headerSize l) (bodySize l)
+    pub find-here : (attributeSize l ≡ 0 → ⊥) → getD l 1 0 ≡ code → findFrom at l ≡ At (at + attributeHeader l) (bodySize l)
     unfolding findIn
     find-here n e = more-fuel ∙ simp (ne-eqb _ _ n, eq-eqb _ _ e)
 

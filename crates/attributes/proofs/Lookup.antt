@@ -56,7 +56,7 @@ present-at s (At start len) = refl
 present-at s Absent = refl
 
 first-present : (code : ℕ) (raws : List Raw) → present (firstBody code raws) ≡ elem code (codes raws)
-unfolding firstBody elem codes
+unfolding firstBody elem
 first-present code [] = refl
 first-present code (r ∷ raws) = go (eqb (r .code) code) (first-present code raws)
   where

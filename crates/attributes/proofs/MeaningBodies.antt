@@ -8,14 +8,14 @@ use mathlib.Core.List.{List, [], _∷_}
 use lib.ListN.{length, getD, drop-of-length-le}
 use borrow.Author.Tests.{eq-eqb, eqb-true, leb-true, le-leb}
 use Rattle.octets.specs.Numbers.{Octets}
+use Rattle.octets.specs.Lists.{Every, every-none, every-more}
 use Rattle.octets.proofs.Bytes.{octets-take, octets-drop}
 use Rattle.octets.proofs.Rows.{joined-whole, joined-items, whole-joined}
 use Rattle.aspath.proofs.SegmentReads.{segment-reads}
 use Rattle.attributes.specs.Attribute.{Attribute, origin, asPath, nextHop, atomicAggregate, other, codeOf}
-use Rattle.attributes.specs.Wire.{Raw, headerSize, bodySize, attributeSize, rawOf, rawsOf}
+use Rattle.attributes.specs.Wire.{Raw, attributeHeader, bodySize, attributeSize, rawOf, rawsOf}
 use Rattle.attributes.specs.Bodies.{HasBody, Says, SomeWrong, bodyRight, allRight, said}
 use Rattle.octets.proofs.Choices.{never, each, alike}
-use Rattle.octets.proofs.Encode.{Every, every-none, every-more}
 use Rattle.octets.proofs.Items.{items-every}
 use Rattle.attributes.proofs.ByCode.{by-code, said-other, right-other}
 
@@ -28,7 +28,7 @@ OctetBody r = Octets (r .body)
 -- the raw attributes of bytes have bytes for bodies
 pub raws-octets : {l : List ℕ} → Octets l → Every OctetBody (rawsOf l)
 unfolding rawOf
-raws-octets o = items-every attributeSize rawOf (λ l o. octets-take (bodySize l) (octets-drop (headerSize l) o)) o
+raws-octets o = items-every attributeSize rawOf (λ l o. octets-take (bodySize l) (octets-drop (attributeHeader l) o)) o
 
 -- ---- one body
 

@@ -30,15 +30,12 @@ elem-sound k (c ∷ cs) e = go (ℕ-discrete c k) (elem-sound k cs)
         let o = ih (simp (ne-eqb _ _ h) at e) in
         record { j = suc (o .j); within = suc-le-suc (o .within); same = o .same }
 
+-- a code that stands somewhere is found
 elem-at : (k : ℕ) (cs : List ℕ) (j : ℕ) → j < length cs → getD cs j 0 ≡ k → elem k cs ≡ true
 unfolding elem
 elem-at k [] j h e = absurd (not-suc-le-zero h)
 elem-at k (c ∷ cs) zero h e = simp (eq-eqb _ _ e)
 elem-at k (c ∷ cs) (suc j) h e = alike (eqb c k) refl (elem-at k cs j (le-of-suc-le-suc h) e)
-
--- a code that stands somewhere is found
-pub elem-complete : {k : ℕ} {cs : List ℕ} → Occurs k cs → elem k cs ≡ true
-elem-complete {k} {cs} o = elem-at k cs (o .j) (o .within) (o .same)
 
 -- where the codes aren't distinct, some code stands at two places
 pub twice-sound : (cs : List ℕ) → distinct cs ≡ false → Twice cs

@@ -43,7 +43,7 @@ module _ (w : ℕ) where
   attributes-joined o h e = joined-said (whole-joined raw-reads o h) e
 
   raws-of : {attributes : List Attribute} {l : List ℕ} → Joined (AttributeBytes w) attributes l → Raws w attributes l
-  unfolding allRight codes
+  unfolding allRight
   raws-of none = record { raws = []; joined = none; right = refl; same = refl; coded = refl }
   raws-of (more {a = a} {more-items = attributes} {rest = rest} {joined = l} x j q) = go (raws-of j)
     where

@@ -1,28 +1,29 @@
--- Raw attributes are read back from their bytes, those read are what the bytes say, and every raw attribute has bytes. Assumes nothing.
+-- Raw attributes are read back from their bytes, those read are what the bytes say, and just those that fit have bytes. Assumes nothing.
 use Prim.Native.Nat.{ℕ, _+_, _^_, _≤_, _<_}
 use native.Mathlib.Nat.{lt-of-not-le, add-assoc}
 use native.Mathlib.Decide.{decLe}
 use native.Mathlib.Omega.{arith}
 use mathlib.Core.Path.{_≡_, refl, sym, ap, _∙_}
 use mathlib.Core.List.{List, [], _∷_, _++_, append-assoc}
+use mathlib.Core.Logic.{_⊎_, inl, inr}
 use lib.ListN.{length, take, drop, length-append, length-drop}
 use lib.Seq.{take-add, drop-drop, take-append-seam, drop-append-seam, length-take-le}
-use lib.Dec.{ltb}
-use borrow.Author.Tests.{le-leb, lt-leb, lt-ltb, le-ltb}
-use Rattle.octets.specs.Choice.{pick}
+use borrow.Author.Tests.{lt-ltb, le-ltb}
 use Rattle.octets.specs.Numbers.{Octets, numberAt, bytesOf}
 use Rattle.octets.proofs.Bytes.{octets-take, octets-drop, octets-append}
 use Rattle.octets.proofs.Numbers.{number-front, number-after, number-take}
+use Rattle.octets.proofs.Fields.{field-below}
 use Rattle.octets.proofs.Rows.{Reads}
-use Rattle.attributes.specs.Wire.{Raw, RawBytes, lengthWidth, headerSize, bodySize, attributeSize, rawOf}
-use Rattle.attributes.proofs.Sizes.{fits-stands, size-stands, attribute-sizes}
+use Rattle.attributes.specs.Encodable.{withHeader}
+use Rattle.attributes.specs.Wire.{Raw, RawBytes, lengthWidth, attributeHeader, bodySize, attributeSize, rawOf}
+use Rattle.attributes.proofs.Sizes.{width-either, width-least, fits-stands, size-stands, attribute-sizes}
 use Rattle.octets.proofs.Encode.{bytes-field, bytes-length, octets-one}
 
 -- ---- reading an attribute's bytes
 
 module _ {r : Raw} {bytes : List ℕ} (x : RawBytes r bytes) (rest : List ℕ) where
-  raw-header : headerSize (bytes ++ rest) ≡ 2 + length (x .size)
-  unfolding headerSize
+  raw-header : attributeHeader (bytes ++ rest) ≡ 2 + length (x .size)
+  unfolding attributeHeader
   raw-header = rw (x .joined, x .sized .long)
 
   raw-body : bodySize (bytes ++ rest) ≡ length (r .body)
@@ -38,7 +39,7 @@ module _ {r : Raw} {bytes : List ℕ} (x : RawBytes r bytes) (rest : List ℕ) w
   raw-length : length bytes ≡ 2 + length (x .size) + length (r .body)
   raw-length = ap length (x .joined) ∙ simp length-append (omega arith)
 
-  raw-stands : headerSize (bytes ++ rest) + bodySize (bytes ++ rest) ≤ length (bytes ++ rest)
+  raw-stands : attributeHeader (bytes ++ rest) + bodySize (bytes ++ rest) ≤ length (bytes ++ rest)
   raw-stands = simp (raw-header, raw-body, length-append) (omega (arith, raw-length))
 
   raw-exact : attributeSize (bytes ++ rest) ≡ length bytes
@@ -55,8 +56,8 @@ module _ {r : Raw} {bytes : List ℕ} (x : RawBytes r bytes) (rest : List ℕ) w
 
 -- ---- what is read
 
-raw-sound : (l : List ℕ) → Octets l → headerSize l + bodySize l ≤ length l → RawBytes (rawOf l) (take (headerSize l + bodySize l) l)
-unfolding headerSize bodySize rawOf
+raw-sound : (l : List ℕ) → Octets l → attributeHeader l + bodySize l ≤ length l → RawBytes (rawOf l) (take (attributeHeader l + bodySize l) l)
+unfolding attributeHeader bodySize rawOf
 raw-sound [] o h = absurd (omega arith)
 raw-sound (f ∷ []) o h = absurd (omega arith)
 raw-sound (f ∷ c ∷ l) o h =
@@ -95,15 +96,30 @@ raw-octets {r} x =
     (octets-append (octets-one (x .flags) (x .flag-byte))
     (octets-append (octets-one (r .code) (x .code-byte)) (octets-append (x .sized .octets) (x .octets))))
 
--- ---- every raw attribute has bytes
+-- ---- the raw attributes that have bytes
 
--- the bytes of an attribute with a body of n bytes: its length is one byte where that will do
-unfoldable pub withHeader : ℕ → ℕ
-withHeader n = n + pick (ltb n 256) 3 4
-
--- the bytes of a raw attribute
+-- the fewest bytes of a raw attribute
 abbrev pub rawSize : Raw → ℕ
 rawSize r = withHeader (length (r .body))
+
+module _ {r : Raw} {bytes : List ℕ} (x : RawBytes r bytes) where
+  -- the body of one that has bytes is shorter than 2 ^ 16
+  pub raw-short : length (r .body) < 65536
+  raw-short = go (width-either (x .flags))
+    where
+      go : (lengthWidth (x .flags) ≡ 1) ⊎ (lengthWidth (x .flags) ≡ 2) → length (r .body) < 65536
+      go (inl e) = let h = rw e at (field-below (x .sized)) in omega arith
+      go (inr e) = rw e at (field-below (x .sized))
+
+  -- and its bytes are no fewer than that
+  pub raw-least : rawSize r ≤ length bytes
+  unfolding withHeader
+  raw-least = go (width-either (x .flags)) (decLe 256 (length (r .body)))
+    where
+      go : (lengthWidth (x .flags) ≡ 1) ⊎ (lengthWidth (x .flags) ≡ 2) → Dec (256 ≤ length (r .body)) → rawSize r ≤ length bytes
+      go (inl e) (yes long) = let h = rw e at (field-below (x .sized)) in absurd (omega arith)
+      go (inr e) (yes long) = rw (le-ltb _ _ long) (omega (arith, raw-length x [], x .sized .long))
+      go e (no short) = rw (lt-ltb _ _ (lt-of-not-le short)) (omega (arith, raw-length x [], x .sized .long, width-least (x .flags)))
 
 with-flags : (r : Raw) (flags : ℕ) → flags < 256 → r .code < 256 → Octets (r .body) → length (r .body) < 256 ^ lengthWidth flags
     → (bytes : List ℕ) × RawBytes r bytes × (length bytes ≡ length (r .body) + (2 + lengthWidth flags))

@@ -12,7 +12,7 @@ use borrow.Author.Tests.{le-leb, lt-leb, eq-eqb, ne-eqb}
 use Rattle.octets.specs.Numbers.{numberAt}
 use Rattle.octets.proofs.Numbers.{number-lt, number-drop}
 use Rattle.octets.proofs.Rows.{Sizes}
-use Rattle.attributes.specs.Wire.{lengthWidth, headerSize, bodySize, attributeSize}
+use Rattle.attributes.specs.Wire.{lengthWidth, attributeHeader, bodySize, attributeSize}
 
 -- the length is two bytes under the flag
 pub width-two : (flags : ℕ) → flags / 16 % 2 ≡ 1 → lengthWidth flags ≡ 2
@@ -32,14 +32,18 @@ width-either flags = go (ℕ-discrete (flags / 16 % 2) 1)
     go (yes e) = inr (width-two flags e)
     go (no n) = inl (width-one flags n)
 
--- a header is three bytes or more
-pub header-least : (l : List ℕ) → 3 ≤ headerSize l
-unfolding headerSize
-header-least l = go (width-either (getD l 0 0))
+-- so one at least
+pub width-least : (flags : ℕ) → 1 ≤ lengthWidth flags
+width-least flags = go (width-either flags)
   where
-    go : (lengthWidth (getD l 0 0) ≡ 1) ⊎ (lengthWidth (getD l 0 0) ≡ 2) → 3 ≤ headerSize l
+    go : (lengthWidth flags ≡ 1) ⊎ (lengthWidth flags ≡ 2) → 1 ≤ lengthWidth flags
     go (inl e) = omega arith
     go (inr e) = omega arith
+
+-- a header is three bytes or more
+pub header-least : (l : List ℕ) → 3 ≤ attributeHeader l
+unfolding attributeHeader
+header-least l = omega (arith, width-least (getD l 0 0))
 
 -- a body is shorter than 2 ^ 16
 pub body-lt : (l : List ℕ) → ((i : ℕ) → getD l i 0 < 256) → bodySize l < 65536
@@ -51,8 +55,8 @@ body-lt l b = go (width-either (getD l 0 0))
     go (inr e) = rw e (omega (arith, number-lt l 2 2 b))
 
 -- the header of what stands at a place
-pub header-at : (s : List ℕ) (at : ℕ) → headerSize (drop at s) ≡ 2 + lengthWidth (getD s at 0)
-unfolding headerSize
+pub header-at : (s : List ℕ) (at : ℕ) → attributeHeader (drop at s) ≡ 2 + lengthWidth (getD s at 0)
+unfolding attributeHeader
 header-at s at = rw (getD-drop at s 0 0, add-zero) refl
 
 -- and its body
@@ -63,30 +67,30 @@ body-at s at = rw (getD-drop at s 0 0, add-zero, number-drop s at 2 (lengthWidth
 -- a whole attribute stands at the front
 pub record Stands (l : List ℕ) : Type 0 where
   pub long : 3 ≤ attributeSize l
-  pub parts : attributeSize l ≡ headerSize l + bodySize l
+  pub parts : attributeSize l ≡ attributeHeader l + bodySize l
   pub fits : attributeSize l ≤ length l
 
 module _ (l : List ℕ) where
-  whole-size : headerSize l + bodySize l ≤ length l → attributeSize l ≡ headerSize l + bodySize l
+  whole-size : attributeHeader l + bodySize l ≤ length l → attributeSize l ≡ attributeHeader l + bodySize l
   unfolding attributeSize
   whole-size h = simp (le-leb _ _ h)
 
   -- where its bytes are there, one stands
-  pub fits-stands : headerSize l + bodySize l ≤ length l → Stands l
+  pub fits-stands : attributeHeader l + bodySize l ≤ length l → Stands l
   fits-stands h =
       let e = whole-size h in
       record { long = omega (arith, header-least l); parts = e; fits = omega arith }
 
   -- where they aren't, the size is 0
-  pub short-none : length l < headerSize l + bodySize l → attributeSize l ≡ 0
+  pub short-none : length l < attributeHeader l + bodySize l → attributeSize l ≡ 0
   unfolding attributeSize
   short-none h = simp (lt-leb _ _ h)
 
   -- where the size isn't 0, one stands
   pub size-stands : (attributeSize l ≡ 0 → ⊥) → Stands l
-  size-stands n = go (decLe (headerSize l + bodySize l) (length l))
+  size-stands n = go (decLe (attributeHeader l + bodySize l) (length l))
     where
-      go : Dec (headerSize l + bodySize l ≤ length l) → Stands l
+      go : Dec (attributeHeader l + bodySize l ≤ length l) → Stands l
       go (yes h) = fits-stands h
       go (no f) = absurd (n (short-none (lt-of-not-le f)))
 
@@ -102,7 +106,7 @@ attribute-sizes = record { fits = λ l. go l (ℕ-discrete (attributeSize l) 0) 
 pub record Step (s : List ℕ) (at r : ℕ) : Type 0 where
   pub some : attributeSize (drop at s) ≡ 0 → ⊥
   pub long : 3 ≤ r
-  pub parts : headerSize (drop at s) + bodySize (drop at s) ≡ r
+  pub parts : attributeHeader (drop at s) + bodySize (drop at s) ≡ r
   pub fits : at + r ≤ length s
   pub next : drop (attributeSize (drop at s)) (drop at s) ≡ drop (at + r) s
   pub code : getD (drop at s) 1 0 ≡ getD s (at + 1) 0
@@ -122,8 +126,8 @@ step s at r e n =
     }
 
 -- its body is what stands from its header on to its end
-pub body-part : {s : List ℕ} {at r : ℕ} → Step s at r → (h : ℕ) → h ≡ headerSize (drop at s)
-    → take (bodySize (drop at s)) (drop (headerSize (drop at s)) (drop at s)) ≡ take (at + r - (at + h)) (drop (at + h) s)
+pub body-part : {s : List ℕ} {at r : ℕ} → Step s at r → (h : ℕ) → h ≡ attributeHeader (drop at s)
+    → take (bodySize (drop at s)) (drop (attributeHeader (drop at s)) (drop at s)) ≡ take (at + r - (at + h)) (drop (at + h) s)
 body-part {s} {at} {r} x h e =
     let b : bodySize (drop at s) ≡ at + r - (at + h) = omega (arith, x .parts) in
     rw (b, ← e, drop-drop h at s) refl

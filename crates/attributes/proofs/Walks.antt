@@ -9,8 +9,8 @@ use Rattle.octets.specs.Choice.{pick}
 use Rattle.octets.specs.Rows.{whole}
 use Rattle.octets.proofs.Choices.{alike}
 use Rattle.octets.proofs.Rows.{whole-end, whole-bad, whole-next, items-end, items-next}
-use Rattle.attributes.specs.Wire.{headerSize, bodySize, attributeSize, rawOf, rawsOf, codes}
-use Rattle.attributes.specs.Codes.{distinct}
+use Rattle.attributes.specs.Wire.{attributeHeader, bodySize, attributeSize, rawOf, rawsOf, codes}
+use Rattle.attributes.specs.Codes.{isSound}
 use Rattle.attributes.specs.Bodies.{bodyRight, allRight}
 use Rattle.attributes.proofs.Sizes.{attribute-sizes}
 use Rattle.attributes.proofs.Distinct.{fresh, Adds, fresh-start, fresh-end, fresh-marked, fresh-next}
@@ -22,16 +22,15 @@ soundWith marked l = pick (whole attributeSize l) (fresh marked (codes (rawsOf l
 module _ (l : List ℕ) where
   -- where no attribute stands there are no codes
   codes-end : attributeSize l ≡ 0 → codes (rawsOf l) ≡ []
-  unfolding codes
   codes-end z = rw (items-end attributeSize rawOf l z) refl
 
   -- where one stands, its code is the first
   codes-next : {c : ℕ} → (attributeSize l ≡ 0 → ⊥) → getD l 1 0 ≡ c → codes (rawsOf l) ≡ c ∷ codes (rawsOf (drop (attributeSize l) l))
-  unfolding codes rawOf
+  unfolding rawOf
   codes-next n e = ap codes (items-next attributeSize rawOf attribute-sizes l n) ∙ rw e refl
 
   -- with nothing marked, no code may come twice
-  pub sound-start : (marked : ℕ → Bool) → ((c : ℕ) → marked c ≡ false) → soundWith marked l ≡ pick (whole attributeSize l) (distinct (codes (rawsOf l))) false
+  pub sound-start : (marked : ℕ → Bool) → ((c : ℕ) → marked c ≡ false) → soundWith marked l ≡ isSound l
   unfolding soundWith
   sound-start marked h = rw (fresh-start marked h (codes (rawsOf l))) refl
 
@@ -61,7 +60,7 @@ module _ (l : List ℕ) where
     sound-next a e =
         rw (codes-next n code, whole-next attributeSize attribute-sizes l n, fresh-next a e (codes (rawsOf (drop (attributeSize l) l)))) refl
 
-    module _ (w : ℕ) {body : List ℕ} (part : take (bodySize l) (drop (headerSize l) l) ≡ body) where
+    module _ (w : ℕ) {body : List ℕ} (part : take (bodySize l) (drop (attributeHeader l) l) ≡ body) where
       -- its body is looked at, and then the others
       body-first : allRight w (rawsOf l) ≡ pick (bodyRight w c body) (allRight w (rawsOf (drop (attributeSize l) l))) false
       unfolding allRight rawOf

@@ -1,6 +1,5 @@
 -- The attributes of an UPDATE, with what those that are looked at say.
 use Prim.Native.Nat.{ℕ}
-use mathlib.Core.Bool.{Bool, true, false}
 use mathlib.Core.List.{List, [], _∷_}
 use mathlib.Core.Option.{Option, some, none}
 use Rattle.octets.specs.Choice.{orElse}
@@ -16,6 +15,7 @@ pub data Attribute : Type 0 where
   -- any other, by its code and its body
   other : ℕ → List ℕ → Attribute
 
+-- the code of its type
 unfoldable pub codeOf : Attribute → ℕ
 codeOf (origin n) = 1
 codeOf (asPath segments) = 2
@@ -29,6 +29,8 @@ codeOf (other code body) = code
 unfoldable pub firstOf : {A : Type 0} → (Attribute → Option A) → List Attribute → Option A
 firstOf ask [] = none
 firstOf ask (a ∷ more) = orElse (ask a) (firstOf ask more)
+
+-- the questions: what an ORIGIN, an AS_PATH, a NEXT_HOP says, and whether it is an ATOMIC_AGGREGATE
 
 unfoldable pub askOrigin : Attribute → Option ℕ
 askOrigin (origin n) = some n

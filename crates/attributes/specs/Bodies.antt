@@ -8,7 +8,6 @@ use lib.Dec.{leb, eqb}
 use Rattle.octets.specs.Choice.{pick}
 use Rattle.octets.specs.Numbers.{numberAt, Field}
 use Rattle.octets.specs.Rows.{Joined, whole}
-use Rattle.aspath.specs.Members.{Segment}
 use Rattle.aspath.specs.Wire.{SegmentBytes, segmentSize, segmentsOf}
 use Rattle.attributes.specs.Attribute.{Attribute, origin, asPath, nextHop, atomicAggregate, other, codeOf}
 use Rattle.attributes.specs.Wire.{Raw, RawBytes, rawsOf}

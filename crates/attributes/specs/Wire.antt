@@ -1,11 +1,12 @@
 -- An attribute on the wire (RFC 4271, section 4.3), its body not yet looked at.
 use Prim.Native.Nat.{ℕ, _+_, _/_, _%_, _<_}
 use mathlib.Core.Path.{_≡_}
-use mathlib.Core.List.{List, [], _∷_, _++_}
-use lib.ListN.{length, getD, take, drop}
+use mathlib.Core.List.{List, _∷_, _++_, map}
+use lib.ListN.{length, getD}
 use lib.Dec.{leb, eqb}
 use Rattle.octets.specs.Choice.{pick}
 use Rattle.octets.specs.Numbers.{Octets, numberAt, Field}
+use Rattle.octets.specs.Parts.{partAt}
 use Rattle.octets.specs.Rows.{items}
 
 -- a code and a body
@@ -29,23 +30,24 @@ pub record RawBytes (r : Raw) (bytes : List ℕ) : Type 0 where
 
 -- ---- what the code computes, of the attribute at the front
 
-unfoldable pub headerSize : List ℕ → ℕ
-headerSize l = 2 + lengthWidth (getD l 0 0)
+-- the bytes before its body, and those of its body as its length says
+unfoldable pub attributeHeader : List ℕ → ℕ
+attributeHeader l = 2 + lengthWidth (getD l 0 0)
 
 unfoldable pub bodySize : List ℕ → ℕ
 bodySize l = numberAt l 2 (lengthWidth (getD l 0 0))
 
 -- its bytes, 0 where no whole one stands there
 unfoldable pub attributeSize : List ℕ → ℕ
-attributeSize l = pick (leb (headerSize l + bodySize l) (length l)) (headerSize l + bodySize l) 0
+attributeSize l = pick (leb (attributeHeader l + bodySize l) (length l)) (attributeHeader l + bodySize l) 0
 
 unfoldable pub rawOf : List ℕ → Raw
-rawOf l = record { code = getD l 1 0; body = take (bodySize l) (drop (headerSize l) l) }
+rawOf l = record { code = getD l 1 0; body = partAt l (attributeHeader l) (bodySize l) }
 
 -- the attributes of a section
 abbrev pub rawsOf : List ℕ → List Raw
 rawsOf l = items attributeSize rawOf l
 
-unfoldable pub codes : List Raw → List ℕ
-codes [] = []
-codes (r ∷ more) = r .code ∷ codes more
+-- and their codes
+abbrev pub codes : List Raw → List ℕ
+codes raws = map (λ (r : Raw). r .code) raws

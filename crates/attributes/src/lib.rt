@@ -1,14 +1,12 @@
 // Path attributes of an UPDATE: flags, a code, a length of one byte or two, and a body.
 ghost use mathlib.Core.Path.{_≡_};
 ghost use mathlib.Core.Bool.{false};
-ghost use Prim.Native.Nat.{_+_, _*_, _/_, _%_, _^_, _<_, _≤_};
+ghost use Prim.Native.Nat.{_+_, _/_, _%_, _^_, _<_, _≤_};
 ghost use lib.ListN.{length, drop};
 ghost use lib.Dec.{eqb};
-ghost use Rattle.octets.specs.Choice.{pick};
-ghost use Rattle.octets.specs.Rows.{whole};
-ghost use Rattle.aspath.specs.Wire.{bytes};
-ghost use Rattle.attributes.specs.Wire.{lengthWidth, headerSize, bodySize, attributeSize, rawsOf, codes};
-ghost use Rattle.attributes.specs.Codes.{distinct};
+ghost use Rattle.aspath.specs.Wire.{widthBytes};
+ghost use Rattle.attributes.specs.Wire.{lengthWidth, attributeHeader, bodySize, attributeSize, rawsOf};
+ghost use Rattle.attributes.specs.Codes.{isSound};
 ghost use Rattle.attributes.specs.Bodies.{bodyRight, allRight};
 ghost use Rattle.attributes.specs.Finding.{findOf};
 use aspath::Width;
@@ -31,7 +29,7 @@ fn length_width(flags: u32) -> usize
 
 // The bytes before the body of the attribute at a place.
 fn header_size(s: &[u8], at: usize) -> usize
-    ensures { λ r. ⌜ (r ≡ headerSize (drop at (now (s .entry)))) × (r ≤ 4) ⌝ }
+    ensures { λ r. ⌜ (r ≡ attributeHeader (drop at (now (s .entry)))) × (r ≤ 4) ⌝ }
 {
     2 + length_width(octets::number(s, at, 1))
 }
@@ -77,7 +75,7 @@ fn mark(word: u64, bit: u32) -> u64
 
 // Whether a section is attributes to its end, no code twice. The codes seen are the bits of four words.
 pub fn sound(s: &[u8]) -> bool
-    ensures { λ r. ⌜ r ≡ pick (whole attributeSize (now (s .entry))) (distinct (codes (rawsOf (now (s .entry))))) false ⌝ }
+    ensures { λ r. ⌜ r ≡ isSound (now (s .entry)) ⌝ }
 {
     let mut seen = [0u64; 4];
     let mut at = 0;
@@ -100,7 +98,7 @@ pub fn sound(s: &[u8]) -> bool
 
 // Whether the body of an attribute is as its code asks: ORIGIN, AS_PATH, NEXT_HOP and ATOMIC_AGGREGATE are looked at, others are free.
 fn body_right(code: u32, body: &[u8], width: Width) -> bool
-    ensures { λ r. ⌜ r ≡ bodyRight (bytes width) code (now (body .entry)) ⌝ }
+    ensures { λ r. ⌜ r ≡ bodyRight (widthBytes width) code (now (body .entry)) ⌝ }
 {
     match code {
         1 => {
@@ -118,7 +116,7 @@ fn body_right(code: u32, body: &[u8], width: Width) -> bool
 
 // Whether every body of a section is right.
 pub fn bodies_right(s: &[u8], width: Width) -> bool
-    ensures { λ r. ⌜ r ≡ allRight (bytes width) (rawsOf (now (s .entry))) ⌝ }
+    ensures { λ r. ⌜ r ≡ allRight (widthBytes width) (rawsOf (now (s .entry))) ⌝ }
 {
     let mut at = 0;
     while at < s.len() {

@@ -7,12 +7,14 @@ use mathlib.Core.Option.{Option, some, none}
 use lib.ListN.{length, getD, take, drop, replicate, length-replicate}
 use lib.Seq.{take-at}
 use borrow.Author.Tests.{eq-eqb}
+use Rattle.octets.specs.Header.{headerSize}
 use Rattle.octets.specs.Numbers.{Octets, numberAt, bytesOf}
 use Rattle.octets.proofs.Bytes.{octets-append}
 use Rattle.octets.proofs.Encode.{octets-one, bytes-octets}
 use Rattle.octets.proofs.Choices.{never}
 use Rattle.message.specs.Message.{Message}
 use Rattle.message.proofs.RecordOctets.{represents-octets}
+use Rattle.line.specs.Text.{separated}
 use Rattle.line.specs.Line.{lineOf, linesOf}
 use Rattle.program.specs.Readings.{hasLoop, hasBogon, Reading, test, neg, itemCount, weight, steps}
 use Rattle.program.specs.declared.Fields.{Fields}
@@ -21,7 +23,7 @@ use Rattle.program.specs.Layout.{recordSize, fieldsOf, laid, encodeAll}
 use Rattle.program.specs.Compiling.{headOf, itemsOf, records, programOf}
 use Rattle.walk.specs.declared.Step.{Step}
 use Rattle.walk.specs.declared.Step.the-variants.{Record}
-use Rattle.walk.specs.Split.{headerSize, IsRecord, Splits, nothing, placeIn}
+use Rattle.walk.specs.Split.{IsRecord, Splits, nothing, placeIn}
 use Rattle.walk.specs.Steps.{placeAfter}
 use Rattle.walk.proofs.Splits.{splits-append, splits-rest}
 use Rattle.truth.specs.Means.{isTrue}
@@ -185,7 +187,7 @@ module _ (compiler : Compiler) (other judge : Judge) (runner : Runner) (c : Dema
 
   -- one that writes nothing: `! -loops` keeps R, whose line begins with `+`
   pub writes-nothing : WritesNothing judge → DemandTwo compiler judge runner → ⊥
-  unfolding linesOf lineOf messageR
+  unfolding linesOf lineOf separated messageR
   writes-nothing wrong d =
       let x = on-R not-loops few-not compiler judge other runner c d room in
       let e : _≡_ {A = ℕ} 0 43 =

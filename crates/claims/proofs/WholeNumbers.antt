@@ -1,26 +1,24 @@
 -- AS numbers are whole: every number of a width stands in some record, as the peer's and as the path. Assumes nothing.
-use Prim.Native.Nat.{ℕ, zero, suc, _^_, _≤_, _<_}
+use Prim.Native.Nat.{ℕ, _^_, _≤_, _<_}
 use native.Mathlib.Omega.{arith}
 use mathlib.Core.Path.{refl}
 use mathlib.Core.Bool.{Bool, true, false}
 use mathlib.Core.List.{[], _∷_, map}
-use lib.ListN.{getD}
 use lib.Dec.{ltb}
 use Rattle.octets.specs.Choice.{pick}
-use Rattle.octets.proofs.Rows.{total}
-use Rattle.octets.proofs.Encode.{every-none, every-more}
+use Rattle.octets.specs.Lists.{every-none, every-more, total}
 use Rattle.aspath.specs.declared.Width.{Width}
 use Rattle.aspath.specs.declared.Width.the-variants.{Two, Four}
 use Rattle.aspath.specs.Members.{Segment, sequence, members}
-use Rattle.aspath.specs.Wire.{bytes}
-use Rattle.aspath.proofs.SegmentReads.{Encodable}
+use Rattle.aspath.specs.Wire.{widthBytes}
+use Rattle.aspath.specs.Encodable.{EncodableSegment}
 use Rattle.attributes.specs.Attribute.{asPath, codeOf, firstOf, askPath}
 use Rattle.attributes.specs.Codes.{Twice}
-use Rattle.attributes.proofs.RawReads.{withHeader}
-use Rattle.attributes.proofs.AttributesExist.{bodyCost}
+use Rattle.attributes.specs.Encodable.{bodyCost, withHeader}
 use Rattle.message.specs.Message.{Message, update}
+use Rattle.message.specs.Allowed.{for-update, Allowed}
 use Rattle.message.proofs.RecordReads.{represents-one}
-use Rattle.message.proofs.Encodable.{for-update, Allowed, represents-exists}
+use Rattle.message.proofs.Encodable.{represents-exists}
 use Rattle.claims.specs.DemandTwo.{Whole}
 
 -- a sequence of a number alone
@@ -41,7 +39,7 @@ sent w n = record {
 }
 
 -- a number has at most four bytes
-narrow : (w : Width) → bytes w ≤ 4
+narrow : (w : Width) → widthBytes w ≤ 4
 narrow Two = omega arith
 narrow Four = omega arith
 
@@ -54,14 +52,9 @@ header-short false = omega arith
 once : (n : ℕ) → Twice (map codeOf (asPath (segment n ∷ []) ∷ [])) → ⊥
 once n t = omega (arith, t .order, t .within)
 
-module _ (w : Width) (n : ℕ) (h : n < 256 ^ bytes w) where
-  -- each number of it fits
-  each-below : (i : ℕ) → getD (n ∷ []) i 0 < 256 ^ bytes w
-  each-below zero = h
-  each-below (suc i) = omega arith
-
-  encodable : Encodable (bytes w) (segment n)
-  encodable = record { some = omega arith; few = omega arith; below = each-below }
+module _ (w : Width) (n : ℕ) (h : n < 256 ^ widthBytes w) where
+  encodable : EncodableSegment (widthBytes w) (segment n)
+  encodable = record { some = omega arith; few = omega arith; below = every-more h every-none }
 
   allowed : Allowed (sent w n)
   unfolding total bodyCost withHeader
@@ -75,7 +68,7 @@ module _ (w : Width) (n : ℕ) (h : n < 256 ^ bytes w) where
       attributes = every-more {a = asPath (segment n ∷ [])} (every-more encodable every-none, omega (arith, narrow w)) every-none;
       once = once n;
       announced = every-none;
-      limited = omega (arith, narrow w, header-short (ltb (bodyCost (bytes w) (asPath (segment n ∷ []))) 256));
+      limited = omega (arith, narrow w, header-short (ltb (bodyCost (widthBytes w) (asPath (segment n ∷ []))) 256));
     });
   }
 

@@ -7,7 +7,7 @@ use mathlib.Core.Option.{Option}
 use lib.ListN.{length, drop}
 use Rattle.octets.specs.Numbers.{Octets}
 use Rattle.aspath.specs.declared.Width.{Width}
-use Rattle.aspath.specs.Wire.{bytes}
+use Rattle.aspath.specs.Wire.{widthBytes}
 use Rattle.message.specs.Message.{Message}
 use Rattle.message.specs.Represents.{Represents}
 use Rattle.message.specs.declared.Refusal.{Refusal}
@@ -54,7 +54,7 @@ pub record DemandTwo (compiler : Compiler) (judge : Judge) (runner : Runner) : T
       → {m : Message} {record-bytes : List ℕ} → Represents m record-bytes → (lines : List ℕ) (counting : Option Tally) → (FullTally counting → ⊥)
       → OnMessage r m lines (judge (reported (compiler text buffer)) record-bytes lines counting)
   -- "AS numbers are whole, in two bytes or four"
-  pub whole : (w : Width) (n : ℕ) → n < 256 ^ bytes w → Whole w n
+  pub whole : (w : Width) (n : ℕ) → n < 256 ^ widthBytes w → Whole w n
   -- "A damaged record gets its refusal"
   pub refused : {program record-bytes : List ℕ} {why : Refusal} → Valid program → Octets record-bytes → RefusedWith record-bytes why
       → (lines : List ℕ) (counting : Option Tally) → (FullTally counting → ⊥) → judge program record-bytes lines counting .number ≡ number why

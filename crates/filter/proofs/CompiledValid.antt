@@ -1,7 +1,7 @@
 -- What compiles is a valid program: every test of a derived reading is possible. Assumes nothing.
 use Prim.Native.Nat.{ℕ}
 use mathlib.Core.List.{List}
-use Rattle.octets.proofs.Encode.{Every, every-none, every-more}
+use Rattle.octets.specs.Lists.{Every, every-none, every-more}
 use Rattle.program.specs.Readings.{Reading}
 use Rattle.program.specs.Compiling.{programOf}
 use Rattle.program.specs.Validity.{Valid}

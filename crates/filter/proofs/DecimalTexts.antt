@@ -1,22 +1,21 @@
--- The decimal digits of a number are its decimal, and the text of an address is that address; both can be quoted. Assumes nothing.
-use Prim.Native.Nat.{ℕ, zero, suc, _+_, _*_, _/_, _%_, _^_, _≤_, _<_}
-use native.Mathlib.Nat.{pow-suc, lt-of-not-le}
-use native.Mathlib.Decide.{decLe}
+-- The text of an address is that address; it and decimals can be quoted. Assumes nothing.
+use Prim.Native.Nat.{ℕ, suc, _+_, _/_, _%_, _^_, _≤_, _<_}
 use native.Mathlib.Omega.{arith}
-use mathlib.Core.Path.{_≡_, refl, _∙_}
+use mathlib.Core.Path.{_≡_, refl}
 use mathlib.Core.Bool.{Bool, true, false}
 use mathlib.Core.List.{List, [], _∷_, _++_}
 use lib.Dec.{leb}
 use lib.ListN.{length, length-append}
-use borrow.Author.Tests.{leb-true, le-ltb}
+use borrow.Author.Tests.{leb-true}
 use Rattle.octets.specs.Choice.{pick}
+use Rattle.octets.specs.Decimal.{Decimal, digit}
 use Rattle.octets.specs.Decimal as octets
 use Rattle.octets.proofs.Choices.{either, each}
-use Rattle.octets.proofs.Decimal.{digits-small, digits-length}
+use Rattle.octets.proofs.Decimal.{digits-length}
+use Rattle.octets.proofs.Decimal as law
 use Rattle.network.specs.Text.{addressText}
 use Rattle.token.specs.Texts.{Every, none, more}
-use Rattle.operand.specs.Decimals.{Decimal, digit, Below}
-use Rattle.operand.specs.Decimals as decimals
+use Rattle.operand.specs.Decimals.{Below}
 use Rattle.operand.specs.Addresses.{Address}
 use Rattle.operand.proofs.FrontReads.{run-append}
 use Rattle.filter.proofs.Spelling.{Plain}
@@ -72,39 +71,18 @@ shorter n h x = record { plain = x .plain; short = omega (arith, x .short) }
 
 -- ---- decimals
 
--- a digit is its decimal
-small-decimal : (f n : ℕ) → n < 10 → Decimal (octets.digits (suc f) n) n
-small-decimal f n h =
-    let e : n + 48 ≡ 48 + n = omega arith in
-    rw (digits-small f n h, e) (digit n (omega arith))
-
--- the digits of a number are its decimal
-digits-decimal : (f n : ℕ) → n < 10 ^ suc f → Decimal (octets.digits (suc f) n) n
-digits-decimal zero n h = small-decimal zero n h
-digits-decimal (suc f) n h = go (digits-decimal f (n / 10)) (decLe 10 n)
-  where
-    go : (n / 10 < 10 ^ suc f → Decimal (octets.digits (suc f) (n / 10)) (n / 10)) → Dec (10 ≤ n) → Decimal (octets.digits (suc (suc f)) n) n
-    go ih (no k) = small-decimal (suc f) n (lt-of-not-le k)
-    go ih (yes k) =
-        let e : n / 10 < 10 ^ suc f = omega (arith, pow-suc 10 (suc f)) in
-        let s : octets.digits (suc (suc f)) n ≡ octets.digits (suc f) (n / 10) ++ ((n % 10 + 48) ∷ []) = unfold octets.digits in simp (le-ltb _ _ k) in
-        let b : n % 10 + 48 ≡ 48 + n % 10 = omega arith in
-        let v : 10 * (n / 10) + n % 10 ≡ n = omega arith in
-        let x : Decimal (octets.digits (suc (suc f)) n) (10 * (n / 10) + n % 10) = decimals.more (n % 10) (ih e) (omega arith) (omega arith) (s ∙ rw b refl) in
-        rw v at x
-
--- of every number of 32 bits
+-- the digits of a number below a limit are its decimal
 pub decimal-is : (limit n : ℕ) → n < limit → n < 2 ^ 32 → Below limit (octets.decimal n) n
-decimal-is limit n h w = record { decimal = digits-decimal 9 n (omega arith); below = h }
+decimal-is limit n h w = record { decimal = law.decimal-is n w; below = h }
 
 -- digits can be quoted
 decimal-plain : {bs : List ℕ} {n : ℕ} → Decimal bs n → Every Plain bs
 decimal-plain (digit d h) = more (digit-plain d h) none
-decimal-plain (decimals.more d x m h e) = rw e (run-append (decimal-plain x) (more (digit-plain d h) none))
+decimal-plain (octets.more d x m h e) = rw e (run-append (decimal-plain x) (more (digit-plain d h) none))
 
 -- ten at most
 pub decimal-quotable : (n : ℕ) → n < 2 ^ 32 → Quotable 10 (octets.decimal n)
-decimal-quotable n w = record { plain = decimal-plain (digits-decimal 9 n (omega arith)); short = digits-length 10 n }
+decimal-quotable n w = record { plain = decimal-plain (law.decimal-is n w); short = digits-length 10 n }
 
 -- ---- addresses
 

@@ -6,8 +6,8 @@ use mathlib.Core.Bool.{true, false}
 use mathlib.Core.List.{List, [], _∷_, _++_}
 use mathlib.Core.Logic.{_↔_}
 use lib.ListN.{length, length-append, length-replicate}
+use Rattle.octets.specs.Lists.{Every, every-none, every-more}
 use Rattle.octets.proofs.Choices.{never}
-use Rattle.octets.proofs.Encode.{Every, every-none, every-more}
 use Rattle.octets.proofs.Every.{every-append, every-place}
 use Rattle.aspath.specs.declared.Item.the-variants.{Any}
 use Rattle.program.specs.Readings.{Test, pathMatches, hasLoop, itemCount, Operator, and, or, Reading, test, neg, joint, weight}

@@ -8,8 +8,9 @@ use lib.Dec.{leb}
 use lib.ListN.{length, getD}
 use borrow.Author.Tests.{leb-true}
 use Rattle.octets.specs.Choice.{pick}
+use Rattle.octets.specs.Lists.{Every, every-none, every-more}
 use Rattle.octets.proofs.Choices.{each}
-use Rattle.octets.proofs.Encode.{Every, every-none, every-more}
+use Rattle.octets.proofs.Every.{every-place}
 use Rattle.network.specs.declared.Relation.the-variants.{Exact, Supernet, Subnet, Related}
 use Rattle.program.specs.Readings.{hasBogon, Operator, and, or}
 use Rattle.token.specs.Texts.{none, more}

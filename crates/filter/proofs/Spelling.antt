@@ -4,8 +4,8 @@ use native.Mathlib.Omega.{arith}
 use mathlib.Core.Path.{_≡_, refl, sym, ap}
 use mathlib.Core.List.{List, [], _∷_, _++_, append-assoc}
 use lib.ListN.{length, length-append}
-use Rattle.octets.proofs.Encode.{every-none, every-more}
-use Rattle.octets.proofs.Encode as list
+use Rattle.octets.specs.Lists.{every-none, every-more}
+use Rattle.octets.specs.Lists as list
 use Rattle.program.specs.Readings.{Reading, weight}
 use Rattle.program.specs.Records.{weightLimit}
 use Rattle.program.specs.Layout.{recordSize}

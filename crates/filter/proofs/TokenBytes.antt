@@ -5,7 +5,7 @@ use native.Mathlib.Omega.{arith}
 use mathlib.Core.Path.{_≡_, refl, sym, ap, _∙_}
 use mathlib.Core.List.{List, [], _∷_, _++_, append-assoc}
 use lib.ListN.{length, length-append}
-use Rattle.octets.proofs.Encode.{Every, every-none, every-more}
+use Rattle.octets.specs.Lists.{Every, every-none, every-more}
 use Rattle.token.specs.Tokens.{Token, word, quoted, Mark, opening, closing, banging, Placed, placed, Lexes, nothing, blanks, marks, words, quotes}
 use Rattle.filter.proofs.Spelling.{spelled}
 

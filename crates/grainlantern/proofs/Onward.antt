@@ -6,8 +6,8 @@ use native.Mathlib.Omega.{arith}
 use mathlib.Core.List.{List}
 use mathlib.Core.Option.{Option}
 use lib.ListN.{length}
+use Rattle.octets.specs.Header.{headerSize}
 use Rattle.octets.specs.Numbers.{numberAt}
-use Rattle.walk.specs.Split.{headerSize}
 use Rattle.walk.proofs.Steps.{step-past, step-short, step-overrun, step-whole}
 use Rattle.judge.specs.declared.Tally.{Tally}
 use Rattle.judge.specs.Functions.{Judge}

@@ -20,7 +20,7 @@ use Rattle.network.specs.Text.{addressText}
 use Rattle.network.proofs.Texts.{addressText-length}
 use Rattle.aspath.specs.declared.Width.{Width}
 use Rattle.aspath.specs.declared.Width.the-variants.{Two, Four}
-use Rattle.aspath.specs.Wire.{bytes}
+use Rattle.aspath.specs.Wire.{widthBytes}
 use Rattle.attributes.specs.declared.Found.{Found}
 use Rattle.attributes.specs.declared.Found.the-variants.{At, Absent}
 use Rattle.attributes.specs.Attribute.{Attribute, firstOf}
@@ -35,6 +35,7 @@ use Rattle.line.specs.Text.{following, prefixesText, pathText, optional}
 use Rattle.line.specs.Line.{originText, atomicText, widthText, attributeFields, closingFields, lineOf, linesOf}
 use Rattle.line.specs.Answer.{lineRoom, isAmple}
 use Rattle.octets.proofs.Choices.{second-chosen}
+use Rattle.line.proofs.Lines.{line-cons}
 use Rattle.line.proofs.Costs.{prefixes-short}
 use Rattle.line.proofs.PathCosts.{path-short}
 
@@ -60,10 +61,10 @@ origin-short n = go (eqb n 0) (eqb n 1)
     go false false = omega arith
 
 -- the fields of a section of attributes, each after a bar
-attributes-short : (width : Width) {s : List ℕ} → Octets s → length (following 124 (attributeFields (attributesOf (bytes width) s))) ≤ 3 * length s + 24
+attributes-short : (width : Width) {s : List ℕ} → Octets s → length (following 124 (attributeFields (attributesOf (widthBytes width) s))) ≤ 3 * length s + 24
 unfolding following
 attributes-short width {s} o =
-    let w = bytes width in
+    let w = widthBytes width in
     let body : (start len : ℕ) → Octets (take len (drop start s)) = λ start len. octets-take len (octets-drop start o) in
     let path = field-short (asks-path w) pathText (3 * length s) s
     (λ start len. omega (arith, path-short width (body start len), length-take len (drop start s), length-drop start s)) in
@@ -89,18 +90,17 @@ closing-short address asn seconds width h =
 
 -- a line has at most 10 bytes for each byte of its prefixes, 3 for each byte of its attributes, and 67
 pub line-short : (type : ℕ) (prefixes : List ℕ) {attributes : List ℕ} (address asn seconds : ℕ) (width : Width) → Octets attributes → address < 2 ^ 32
-    → length (lineOf type (networksOf prefixes) (attributesOf (bytes width) attributes) (closingFields address asn seconds width))
+    → length (lineOf type (networksOf prefixes) (attributesOf (widthBytes width) attributes) (closingFields address asn seconds width))
     ≤ 10 * length prefixes + 3 * length attributes + 67
 line-short type prefixes {attributes} address asn seconds width o h =
     go (networksOf prefixes) (prefixes-short prefixes)
   where
     go : (ns : List Network) → length (prefixesText ns) ≤ 10 * length prefixes
-        → length (lineOf type ns (attributesOf (bytes width) attributes) (closingFields address asn seconds width)) ≤ 10 * length prefixes + 3 * length attributes + 67
+        → length (lineOf type ns (attributesOf (widthBytes width) attributes) (closingFields address asn seconds width)) ≤ 10 * length prefixes + 3 * length attributes + 67
     go [] k = unfold lineOf in omega arith
     go (n ∷ ns) k =
-        unfold lineOf in
-        let e : length (following 124 (prefixesText (n ∷ ns) ∷ [])) ≡ 1 + length (prefixesText (n ∷ ns)) = unfold following in simp length-append (omega arith) in
-        simp length-append (omega (arith, attributes-short width o, closing-short address asn seconds width h))
+        rw (line-cons type (attributesOf (widthBytes width) attributes) (closingFields address asn seconds width) n ns)
+        (simp length-append (omega (arith, attributes-short width o, closing-short address asn seconds width h)))
 
 -- a part has no more bytes than it says
 part-length : (s : List ℕ) (p : Part) → length (partOf s p) ≤ p .len
@@ -113,7 +113,7 @@ part-octets o p = octets-take (p .len) (octets-drop (p .start) o)
 module _ (s : List ℕ) (p : Parts) (h : p .address < 2 ^ 32) where
   -- a line of a part of a record
   part-line-short : (type : ℕ) (prefixes : Part) {attributes : List ℕ} → Octets attributes
-      → length (lineOf type (networksOf (partOf s prefixes)) (attributesOf (bytes (p .width)) attributes) (closingFields (p .address) (p .peer) (p .seconds) (p .width)))
+      → length (lineOf type (networksOf (partOf s prefixes)) (attributesOf (widthBytes (p .width)) attributes) (closingFields (p .address) (p .peer) (p .seconds) (p .width)))
       ≤ 10 * prefixes .len + 3 * length attributes + 67
   part-line-short type prefixes o =
       omega (arith, line-short type (partOf s prefixes) (p .address) (p .peer) (p .seconds) (p .width) o h, part-length s prefixes)

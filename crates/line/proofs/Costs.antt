@@ -5,8 +5,8 @@ use native.Mathlib.Omega.{arith}
 use mathlib.Core.Path.{_≡_, refl}
 use mathlib.Core.List.{List, [], _∷_, map}
 use lib.ListN.{length, length-append}
-use Rattle.octets.proofs.Rows.{total, items-cost}
-use Rattle.octets.proofs.Encode.{Every, every-none, every-more}
+use Rattle.octets.specs.Lists.{Every, every-none, every-more, total}
+use Rattle.octets.proofs.Rows.{items-cost}
 use Rattle.network.specs.Text.{networkText}
 use Rattle.network.specs.Wire.{prefixSize, networkOf}
 use Rattle.network.proofs.Prefixes.{prefix-sizes}

@@ -6,16 +6,18 @@ use mathlib.Core.List.{List, map}
 use lib.ListN.{length, getD, length-append}
 use Rattle.octets.specs.Numbers.{Octets}
 use Rattle.octets.specs.Decimal.{decimal}
+use Rattle.octets.specs.Lists.{Every, every-none, every-more}
 use Rattle.octets.proofs.Bytes.{octets-drop}
 use Rattle.octets.proofs.Numbers.{number-lt}
 use Rattle.octets.proofs.Decimal.{digits-length, digits-few}
-use Rattle.octets.proofs.Encode.{Every, every-none, every-more, total-same}
+use Rattle.octets.proofs.Encode.{total-same}
 use Rattle.octets.proofs.Items.{items-every}
 use Rattle.aspath.specs.declared.Width.{Width}
 use Rattle.aspath.specs.declared.Width.the-variants.{Two, Four}
 use Rattle.aspath.specs.Members.{Kind, set, sequence, Segment}
-use Rattle.aspath.specs.Wire.{bytes, numbersIn, segmentSize, segmentOf, segmentsOf}
-use Rattle.aspath.proofs.SegmentReads.{segmentCost, members-count}
+use Rattle.aspath.specs.Wire.{widthBytes, numbersIn, segmentSize, segmentOf, segmentsOf}
+use Rattle.aspath.specs.Encodable.{segmentCost}
+use Rattle.aspath.proofs.SegmentReads.{members-count}
 use Rattle.line.specs.Text.{separated, numbersText, segmentText, pathText}
 use Rattle.line.proofs.Costs.{textCost, separated-length, total-every}
 
@@ -24,16 +26,16 @@ record Brief (w n : ℕ) : Type 0 where
   brief : textCost decimal n ≤ 3 * w
 
 -- a number of a path's width is brief
-number-brief : (width : Width) (n : ℕ) → n < 256 ^ bytes width → Brief (bytes width) n
+number-brief : (width : Width) (n : ℕ) → n < 256 ^ widthBytes width → Brief (widthBytes width) n
 number-brief Two n h = record { brief = omega (arith, digits-few 4 9 n (omega arith)) }
 number-brief Four n h = record { brief = omega (arith, digits-length 10 n) }
 
 -- the numbers read of bytes are brief
-numbers-brief : (width : Width) (n : ℕ) {l : List ℕ} → Octets l → Every (Brief (bytes width)) (numbersIn (bytes width) n l)
+numbers-brief : (width : Width) (n : ℕ) {l : List ℕ} → Octets l → Every (Brief (widthBytes width)) (numbersIn (widthBytes width) n l)
 unfolding numbersIn
 numbers-brief width zero o = every-none
 numbers-brief width (suc n) {l} o =
-    every-more (number-brief width _ (number-lt l 0 (bytes width) (o .below))) (numbers-brief width n (octets-drop (bytes width) o))
+    every-more (number-brief width _ (number-lt l 0 (widthBytes width) (o .below))) (numbers-brief width n (octets-drop (widthBytes width) o))
 
 -- brief numbers with a separator between have at most 3 bytes of text for each of w bytes each
 numbers-short : (w separator : ℕ) {ns : List ℕ} → Every (Brief w) ns → length (separated separator (map decimal ns)) ≤ 3 * (length ns * w)
@@ -49,9 +51,9 @@ segment-short w s h = go (s .kind)
     go set = unfold numbersText in simp length-append (omega (arith, numbers-short w 44 h))
 
 -- a path as text has at most 3 bytes for each of its own
-pub path-short : (width : Width) {l : List ℕ} → Octets l → length (pathText (segmentsOf (bytes width) l)) ≤ 3 * length l
+pub path-short : (width : Width) {l : List ℕ} → Octets l → length (pathText (segmentsOf (widthBytes width) l)) ≤ 3 * length l
 path-short width {l} o =
-    let w = bytes width in
+    let w = widthBytes width in
     let each : (l : List ℕ) → Octets l → Every (Brief w) (segmentOf w l .numbers) = λ l o. unfold segmentOf in numbers-brief width (getD l 1 0) (octets-drop 2 o) in
     omega (
       arith,

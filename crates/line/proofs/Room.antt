@@ -34,7 +34,7 @@ unfolding partsAt updateParts otherParts
 parts-short w {s} o x = go (ℕ-discrete (kindField (frame w s)) update)
   where
     below : peerAddressField w s < 2 ^ 32
-    below = number-lt s (frameStart w - 8) 4 (o .below)
+    below = number-lt s _ 4 (o .below)
 
     go : Dec (kindField (frame w s) ≡ update) → Short (partsAt w s)
     go (yes e) = simp (eq-eqb _ _ e) (record {

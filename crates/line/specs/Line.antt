@@ -1,8 +1,6 @@
 -- The printed lines of a message.
 use Prim.Native.Nat.{ℕ}
-use mathlib.Core.Bool.{Bool, true, false}
 use mathlib.Core.List.{List, [], _∷_, _++_}
-use mathlib.Core.Option.{Option, some, none}
 use lib.Dec.{eqb}
 use Rattle.octets.specs.Choice.{pick}
 use Rattle.octets.specs.Decimal.{decimal}
@@ -12,7 +10,7 @@ use Rattle.aspath.specs.declared.Width.{Width}
 use Rattle.aspath.specs.declared.Width.the-variants.{Two, Four}
 use Rattle.attributes.specs.Attribute.{Attribute, firstOf, askOrigin, askPath, askNextHop, askAtomic}
 use Rattle.message.specs.Message.{Message}
-use Rattle.line.specs.Text.{following, prefixesText, pathText, optional}
+use Rattle.line.specs.Text.{separated, prefixesText, pathText, optional}
 
 -- `i`, `e`, `?`
 unfoldable pub originText : ℕ → List ℕ
@@ -60,15 +58,14 @@ attributeFields attributes =
 abbrev pub closingFields : ℕ → ℕ → ℕ → Width → List (List ℕ)
 closingFields address asn seconds width = peerText address asn ∷ decimal seconds ∷ widthText width ∷ []
 
--- a line: its type, its prefixes and the other fields, each after a bar, and LF; none where there are no prefixes
+-- the eleven fields of a line: its type, its prefixes, those of the attributes, and those that end it
+abbrev pub lineFields : ℕ → List Network → List Attribute → List (List ℕ) → List (List ℕ)
+lineFields type prefixes attributes closing = (type ∷ []) ∷ prefixesText prefixes ∷ (attributeFields attributes ++ closing)
+
+-- a line: its fields with bars between, and LF; none where there are no prefixes
 unfoldable pub lineOf : ℕ → List Network → List Attribute → List (List ℕ) → List ℕ
 lineOf type [] attributes closing = []
-lineOf type (n ∷ more) attributes closing =
-    (type ∷ [])
-    ++ (following 124 (prefixesText (n ∷ more) ∷ [])
-    ++ (following 124 (attributeFields attributes)
-    ++ (following 124 closing
-    ++ (10 ∷ []))))
+lineOf type (n ∷ more) attributes closing = separated 124 (lineFields type (n ∷ more) attributes closing) ++ (10 ∷ [])
 
 abbrev closingOf : Message → List (List ℕ)
 closingOf m = closingFields (m .peerAddress) (m .peerAs) (m .seconds) (m .width)

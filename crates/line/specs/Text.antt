@@ -1,6 +1,5 @@
 -- Lists as text.
 use Prim.Native.Nat.{ℕ}
-use mathlib.Core.Bool.{Bool, true, false}
 use mathlib.Core.List.{List, [], _∷_, _++_, map}
 use mathlib.Core.Option.{Option, some, none}
 use Rattle.octets.specs.Decimal.{decimal}

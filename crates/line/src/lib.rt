@@ -5,7 +5,7 @@ ghost use Prim.Native.Nat.{_+_, _*_, _≤_};
 ghost use lib.ListN.{drop, length};
 ghost use Rattle.octets.specs.Writes.{Written};
 ghost use Rattle.octets.specs.Decimal.{decimal};
-ghost use Rattle.aspath.specs.Wire.{bytes, segmentSize, segmentOf, numbersIn, segmentsOf};
+ghost use Rattle.aspath.specs.Wire.{widthBytes, segmentSize, segmentOf, numbersIn, segmentsOf};
 ghost use Rattle.attributes.specs.Bodies.{attributesOf};
 ghost use Rattle.message.specs.Decode.{partOf, networksOf, messageAt};
 ghost use Rattle.line.specs.Text.{separated, following, prefixesText, segmentText, pathText};
@@ -54,8 +54,8 @@ fn put_numbers(
     width: Width,
     separator: u8,
 ) -> usize
-    requires { ⌜ start + count * bytes width ≤ length (now s) ⌝ }
-    ensures { λ r. ⌜ Written (now (out .entry)) at (separated separator (map decimal (numbersIn (bytes width) count (drop start (now (s .entry)))))) (now (out .exit)) r ⌝ }
+    requires { ⌜ start + count * widthBytes width ≤ length (now s) ⌝ }
+    ensures { λ r. ⌜ Written (now (out .entry)) at (separated separator (map decimal (numbersIn (widthBytes width) count (drop start (now (s .entry)))))) (now (out .exit)) r ⌝ }
 {
     if count == 0 {
         return at;
@@ -75,8 +75,8 @@ fn put_numbers(
 
 // The segment at a place: the numbers of a set in braces, parted by commas, those of a sequence by spaces.
 fn put_segment(out: &mut [u8], at: usize, s: &[u8], p: usize, width: Width) -> usize
-    requires { ⌜ (segmentSize (bytes width) (drop p (now s)) ≡ 0 → ⊥) ⌝ }
-    ensures { λ r. ⌜ Written (now (out .entry)) at (segmentText (segmentOf (bytes width) (drop p (now (s .entry))))) (now (out .exit)) r ⌝ }
+    requires { ⌜ (segmentSize (widthBytes width) (drop p (now s)) ≡ 0 → ⊥) ⌝ }
+    ensures { λ r. ⌜ Written (now (out .entry)) at (segmentText (segmentOf (widthBytes width) (drop p (now (s .entry))))) (now (out .exit)) r ⌝ }
 {
     let count = octets::number(s, p + 1, 1) as usize;
     if octets::number(s, p, 1) == 1 {
@@ -89,7 +89,7 @@ fn put_segment(out: &mut [u8], at: usize, s: &[u8], p: usize, width: Width) -> u
 
 // The segments of a path with spaces between.
 fn put_path(out: &mut [u8], at: usize, s: &[u8], width: Width) -> usize
-    ensures { λ r. ⌜ Written (now (out .entry)) at (pathText (segmentsOf (bytes width) (now (s .entry)))) (now (out .exit)) r ⌝ }
+    ensures { λ r. ⌜ Written (now (out .entry)) at (pathText (segmentsOf (widthBytes width) (now (s .entry)))) (now (out .exit)) r ⌝ }
 {
     let first = aspath::segment_size(s, 0, width);
     if first == 0 {
@@ -111,7 +111,7 @@ fn put_path(out: &mut [u8], at: usize, s: &[u8], width: Width) -> usize
 
 // AS_PATH after a bar.
 fn put_path_field(out: &mut [u8], at: usize, s: &[u8], width: Width) -> usize
-    ensures { λ r. ⌜ Written (now (out .entry)) at ((124 ∷ []) ++ pathField (attributesOf (bytes width) (now (s .entry)))) (now (out .exit)) r ⌝ }
+    ensures { λ r. ⌜ Written (now (out .entry)) at ((124 ∷ []) ++ pathField (attributesOf (widthBytes width) (now (s .entry)))) (now (out .exit)) r ⌝ }
 {
     let place = octets::put(out, at, b'|');
     let found = attributes::find(s, 2);
@@ -123,7 +123,7 @@ fn put_path_field(out: &mut [u8], at: usize, s: &[u8], width: Width) -> usize
 
 // NEXT_HOP after a bar.
 fn put_next_hop_field(out: &mut [u8], at: usize, s: &[u8], width: Width) -> usize
-    ensures { λ r. ⌜ Written (now (out .entry)) at ((124 ∷ []) ++ nextHopField (attributesOf (bytes width) (now (s .entry)))) (now (out .exit)) r ⌝ }
+    ensures { λ r. ⌜ Written (now (out .entry)) at ((124 ∷ []) ++ nextHopField (attributesOf (widthBytes width) (now (s .entry)))) (now (out .exit)) r ⌝ }
 {
     let place = octets::put(out, at, b'|');
     let found = attributes::find(s, 3);
@@ -150,7 +150,7 @@ fn origin_letter(n: u32) -> u8
 
 // ORIGIN after a bar.
 fn put_origin_field(out: &mut [u8], at: usize, s: &[u8], width: Width) -> usize
-    ensures { λ r. ⌜ Written (now (out .entry)) at ((124 ∷ []) ++ originField (attributesOf (bytes width) (now (s .entry)))) (now (out .exit)) r ⌝ }
+    ensures { λ r. ⌜ Written (now (out .entry)) at ((124 ∷ []) ++ originField (attributesOf (widthBytes width) (now (s .entry)))) (now (out .exit)) r ⌝ }
 {
     let place = octets::put(out, at, b'|');
     let found = attributes::find(s, 1);
@@ -166,7 +166,7 @@ fn put_origin_field(out: &mut [u8], at: usize, s: &[u8], width: Width) -> usize
 
 // ATOMIC_AGGREGATE after a bar.
 fn put_atomic_field(out: &mut [u8], at: usize, s: &[u8], width: Width) -> usize
-    ensures { λ r. ⌜ Written (now (out .entry)) at ((124 ∷ []) ++ atomicField (attributesOf (bytes width) (now (s .entry)))) (now (out .exit)) r ⌝ }
+    ensures { λ r. ⌜ Written (now (out .entry)) at ((124 ∷ []) ++ atomicField (attributesOf (widthBytes width) (now (s .entry)))) (now (out .exit)) r ⌝ }
 {
     let place = octets::put(out, at, b'|');
     let found = attributes::find(s, 6);
@@ -179,7 +179,7 @@ fn put_atomic_field(out: &mut [u8], at: usize, s: &[u8], width: Width) -> usize
 
 // The fields of the attributes, each after a bar: AGGREGATOR and COMMUNITIES stay empty.
 fn put_attributes(out: &mut [u8], at: usize, s: &[u8], width: Width) -> usize
-    ensures { λ r. ⌜ Written (now (out .entry)) at (following 124 (attributeFields (attributesOf (bytes width) (now (s .entry))))) (now (out .exit)) r ⌝ }
+    ensures { λ r. ⌜ Written (now (out .entry)) at (following 124 (attributeFields (attributesOf (widthBytes width) (now (s .entry))))) (now (out .exit)) r ⌝ }
 {
     let place = put_path_field(out, at, s, width);
     let place = put_next_hop_field(out, place, s, width);
@@ -230,7 +230,7 @@ fn put_line(
     parts: Parts,
 ) -> usize
     ensures { λ r. ⌜ Written (now (out .entry)) at
-        (lineOf kind (networksOf (now (prefixes .entry))) (attributesOf (bytes (parts .width)) (now (attributes .entry)))
+        (lineOf kind (networksOf (now (prefixes .entry))) (attributesOf (widthBytes (parts .width)) (now (attributes .entry)))
         (closingFields (parts .address) (parts .peer) (parts .seconds) (parts .width)))
         (now (out .exit)) r ⌝ }
 {

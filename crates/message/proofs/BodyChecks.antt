@@ -14,7 +14,7 @@ use Rattle.network.specs.declared.Network.{Network}
 use Rattle.network.specs.Wire.{PrefixBytes, prefixSize}
 use Rattle.network.proofs.Prefixes.{prefix-reads}
 use Rattle.aspath.specs.declared.Width.{Width}
-use Rattle.aspath.specs.Wire.{bytes}
+use Rattle.aspath.specs.Wire.{widthBytes}
 use Rattle.attributes.specs.Wire.{attributeSize, rawsOf}
 use Rattle.attributes.proofs.RawReads.{raw-reads}
 use Rattle.attributes.proofs.MeaningCodes.{twice-sound, twice-complete}
@@ -67,21 +67,21 @@ unfolding wrongAttributes
 attributes-whole l e = each _ _ (not-false _ e) .0
 
 -- row 17, looked at only where the section is attributes to its end
-pub body-decides : (w : Width) {l : List ℕ} → Octets l → whole attributeSize l ≡ true → Decides (wrongBody w l) (WrongBody (bytes w) l)
+pub body-decides : (w : Width) {l : List ℕ} → Octets l → whole attributeSize l ≡ true → Decides (wrongBody w l) (WrongBody (widthBytes w) l)
 unfolding wrongBody
 body-decides w {l} o h = record { sound = sound; complete = complete }
   where
-    sound : wrongBody w l ≡ true → WrongBody (bytes w) l
+    sound : wrongBody w l ≡ true → WrongBody (widthBytes w) l
     sound e = record {
       raws = rawsOf l;
       joined = whole-joined raw-reads o h;
-      wrong = wrong-sound (bytes w) (rawsOf l) (not-true _ e);
+      wrong = wrong-sound (widthBytes w) (rawsOf l) (not-true _ e);
     }
 
-    complete : WrongBody (bytes w) l → wrongBody w l ≡ true
+    complete : WrongBody (widthBytes w) l → wrongBody w l ≡ true
     complete x =
         let e = joined-items raw-reads (x .joined) in
-        ap not (wrong-complete (bytes w) (raws-octets o) (rw e (x .wrong)))
+        ap not (wrong-complete (widthBytes w) (raws-octets o) (rw e (x .wrong)))
 
 -- row 18
 pub prefix-decides : {withdrawn announced : List ℕ} → Octets withdrawn → Octets announced → Decides (wrongPrefix withdrawn announced) (WrongPrefix withdrawn announced)

@@ -13,12 +13,14 @@ use Rattle.octets.specs.Rows.{whole}
 use Rattle.octets.proofs.Choices.{never, each}
 use Rattle.network.specs.Wire.{prefixSize}
 use Rattle.aspath.specs.declared.Width.{Width}
-use Rattle.aspath.specs.Wire.{bytes}
+use Rattle.aspath.specs.declared.Width.the-variants.{Two, Four}
+use Rattle.aspath.specs.Wire.{widthBytes}
 use Rattle.attributes.specs.Wire.{attributeSize, rawsOf, codes}
 use Rattle.attributes.specs.Codes.{distinct}
 use Rattle.attributes.specs.Bodies.{allRight}
-use Rattle.message.specs.Represents.{addressBits, messageLimit, bgp4mp, subtypeOf}
-use Rattle.message.specs.Fields.{headerSize, typeField, subtypeField, lengthField, widthOf, frameStart, familyField, frameLength, withdrawnSize, attributesSize, withdrawnIn, attributesIn, announcedIn}
+use Rattle.message.specs.Represents.{addressBits, messageLimit, markerSize, frameHeader, ipv4, bgp4mp, subtypeOf}
+use Rattle.octets.specs.Header.{headerSize, typeField, subtypeField, lengthField}
+use Rattle.message.specs.Fields.{widthOf, frameStart, familyField, frameLength, withdrawnSize, attributesSize, withdrawnIn, attributesIn, announcedIn}
 use Rattle.message.specs.Refusals.{recordLimit}
 use Rattle.message.specs.Decode.{wrongSize, wrongKind, wrongPeer, ones, wrongFrame, wrongSections, wrongAttributes, wrongBody, wrongPrefix}
 use Rattle.message.proofs.Ones.{ones-sound, ones-complete}
@@ -64,27 +66,27 @@ pub record RightKind (s : List ℕ) : Type 0 where
 -- this holds where the check passes
 pub kind-sound : (s : List ℕ) → wrongKind s ≡ false → RightKind s
 unfolding wrongKind
-kind-sound s e = let x = first-only (eqb (typeField s) bgp4mp) _ e in record { type = eqb-true _ _ (x .0); subtype = go (ℕ-discrete (subtypeField s) 1) (x .1) }
+kind-sound s e = let x = first-only (eqb (typeField s) bgp4mp) _ e in record { type = eqb-true _ _ (x .0); subtype = go (ℕ-discrete (subtypeField s) (subtypeOf Two)) (x .1) }
   where
-    go : Dec (subtypeField s ≡ 1) → pick (eqb (subtypeField s) 1) false (not (eqb (subtypeField s) 4)) ≡ false → subtypeField s ≡ subtypeOf (widthOf s)
+    go : Dec (subtypeField s ≡ subtypeOf Two) → pick (eqb (subtypeField s) (subtypeOf Two)) false (not (eqb (subtypeField s) (subtypeOf Four))) ≡ false → subtypeField s ≡ subtypeOf (widthOf s)
     go (yes h) f = simp (eq-eqb _ _ h) h
     go (no h) f = simp (ne-eqb _ _ h) (eqb-true _ _ (not-false _ (simp (ne-eqb _ _ h) at f)))
 
 -- the check passes where this holds
 pub kind-complete : {s : List ℕ} → RightKind s → wrongKind s ≡ false
 unfolding wrongKind
-kind-complete {s} x = simp (eq-eqb _ _ (x .type)) (go (ℕ-discrete (subtypeField s) 1))
+kind-complete {s} x = simp (eq-eqb _ _ (x .type)) (go (ℕ-discrete (subtypeField s) (subtypeOf Two)))
   where
-    go : Dec (subtypeField s ≡ 1) → pick (eqb (subtypeField s) 1) false (not (eqb (subtypeField s) 4)) ≡ false
+    go : Dec (subtypeField s ≡ subtypeOf Two) → pick (eqb (subtypeField s) (subtypeOf Two)) false (not (eqb (subtypeField s) (subtypeOf Four))) ≡ false
     go (yes h) = simp (eq-eqb _ _ h)
-    go (no h) = let f : subtypeField s ≡ 4 = simp (ne-eqb _ _ h) at (x .subtype) in simp (ne-eqb _ _ h, eq-eqb _ _ f)
+    go (no h) = let f : subtypeField s ≡ subtypeOf Four = simp (ne-eqb _ _ h) at (x .subtype) in simp (ne-eqb _ _ h, eq-eqb _ _ f)
 
 -- ---- the peer part
 
 -- the peer part is there, and its family is IPv4
 pub record RightPeer (w : Width) (s : List ℕ) : Type 0 where
   pub fits : frameStart w ≤ length s
-  pub family : familyField w s ≡ 1
+  pub family : familyField w s ≡ ipv4
 
 -- this holds where the check passes
 pub peer-sound : (w : Width) (s : List ℕ) → wrongPeer w s ≡ false → RightPeer w s
@@ -102,29 +104,29 @@ peer-complete x = simp (le-ltb _ _ (x .fits), eq-eqb _ _ (x .family))
 
 -- the bytes are 19 to 4,096, the marker is there, and the length is theirs
 pub record RightFrame (l : List ℕ) : Type 0 where
-  pub long : 19 ≤ length l
+  pub long : frameHeader ≤ length l
   pub limited : length l ≤ messageLimit
-  pub marked : take 16 l ≡ replicate 16 255
+  pub marked : take markerSize l ≡ replicate markerSize 255
   pub even : frameLength l ≡ length l
 
 -- this holds where the check passes
 pub frame-sound : (l : List ℕ) → wrongFrame l ≡ false → RightFrame l
 unfolding wrongFrame
 frame-sound l e =
-    let x = neither (ltb (length l) 19) _ e in
+    let x = neither (ltb (length l) frameHeader) _ e in
     let y = neither (ltb messageLimit (length l)) _ (x .1) in
-    let z = first-only (ones 16 l) _ (y .1) in
+    let z = first-only (ones markerSize l) _ (y .1) in
     record {
       long = ltb-false _ _ (x .0);
       limited = ltb-false _ _ (y .0);
-      marked = ones-sound 16 l (z .0);
+      marked = ones-sound markerSize l (z .0);
       even = eqb-true _ _ (not-false _ (z .1));
     }
 
 -- the check passes where this holds
 pub frame-complete : {l : List ℕ} → RightFrame l → wrongFrame l ≡ false
 unfolding wrongFrame
-frame-complete {l} x = simp (le-ltb _ _ (x .long), le-ltb _ _ (x .limited), ones-complete 16 l (x .marked), eq-eqb _ _ (x .even))
+frame-complete {l} x = simp (le-ltb _ _ (x .long), le-ltb _ _ (x .limited), ones-complete markerSize l (x .marked), eq-eqb _ _ (x .even))
 
 -- ---- the body of an UPDATE
 
@@ -133,7 +135,7 @@ pub record RightUpdate (w : Width) (b : List ℕ) : Type 0 where
   pub fits : 4 + withdrawnSize b + attributesSize b ≤ length b
   pub attributes-whole : whole attributeSize (attributesIn b) ≡ true
   pub attributes-once : distinct (codes (rawsOf (attributesIn b))) ≡ true
-  pub attributes-right : allRight (bytes w) (rawsOf (attributesIn b)) ≡ true
+  pub attributes-right : allRight (widthBytes w) (rawsOf (attributesIn b)) ≡ true
   pub withdrawn-whole : whole (prefixSize addressBits) (withdrawnIn b) ≡ true
   pub announced-whole : whole (prefixSize addressBits) (announcedIn b) ≡ true
 
@@ -158,12 +160,12 @@ unfolding wrongAttributes
 attributes-complete l h k = simp (h, k)
 
 -- the bodies are right where their check passes
-pub body-sound : (w : Width) (l : List ℕ) → wrongBody w l ≡ false → allRight (bytes w) (rawsOf l) ≡ true
+pub body-sound : (w : Width) (l : List ℕ) → wrongBody w l ≡ false → allRight (widthBytes w) (rawsOf l) ≡ true
 unfolding wrongBody
 body-sound w l e = not-false _ e
 
 -- their check passes where they are
-pub body-complete : (w : Width) (l : List ℕ) → allRight (bytes w) (rawsOf l) ≡ true → wrongBody w l ≡ false
+pub body-complete : (w : Width) (l : List ℕ) → allRight (widthBytes w) (rawsOf l) ≡ true → wrongBody w l ≡ false
 unfolding wrongBody
 body-complete w l h = simp h
 

@@ -1,73 +1,30 @@
--- Every message whose numbers fit their fields, and whose networks and attributes fit a BGP message, has a record. Assumes nothing.
+-- A message has a record exactly where it is allowed. Assumes nothing.
 use Prim.Native.Nat.{ℕ, _+_, _^_, _≤_, _<_}
 use native.Mathlib.Omega.{arith}
-use mathlib.Core.Path.{_≡_, refl, _∙_}
-use mathlib.Core.List.{List, [], _++_, map}
+use mathlib.Core.Path.{_≡_, refl, ap, _∙_}
+use mathlib.Core.List.{List, [], _++_}
 use lib.ListN.{length, replicate, length-append}
 use Rattle.octets.specs.Numbers.{Free, Field, bytesOf}
+use Rattle.octets.specs.Lists.{Every, total}
 use Rattle.octets.specs.Rows.{Joined}
 use Rattle.octets.proofs.Bytes.{octets-none}
-use Rattle.octets.proofs.Rows.{total}
-use Rattle.octets.proofs.Encode.{bytes-length, bytes-octets, bytes-field, Every}
+use Rattle.octets.proofs.Fields.{field-below}
+use Rattle.octets.proofs.Encode.{bytes-length, bytes-octets, bytes-field, joined-length, joined-most, joined-every}
 use Rattle.network.specs.declared.Network.{Network}
-use Rattle.network.specs.Networks.{masked}
-use Rattle.network.specs.Wire.{bytesFor, PrefixBytes}
-use Rattle.network.proofs.Prefixes.{prefix-exists}
+use Rattle.network.specs.Wire.{PrefixBytes}
+use Rattle.network.proofs.Prefixes.{prefix-exists, prefix-length, prefix-below, prefix-clear}
 use Rattle.aspath.specs.declared.Width.{Width}
 use Rattle.aspath.specs.declared.Width.the-variants.{Two, Four}
-use Rattle.aspath.specs.Wire.{bytes}
-use Rattle.attributes.specs.Attribute.{codeOf}
-use Rattle.attributes.specs.Codes.{Twice}
+use Rattle.aspath.specs.Wire.{widthBytes}
 use Rattle.octets.proofs.Items.{sized-exist}
-use Rattle.attributes.proofs.AttributesExist.{Encodable, attributeCost, attributes-exist}
-use Rattle.message.specs.Message.{Message, update}
-use Rattle.message.specs.Represents.{addressBits, messageLimit, bgp4mp, subtypeOf, UpdateBytes, BodyBytes, is-update, is-other, FrameBytes, PeerBytes, Represents}
+use Rattle.attributes.specs.Encodable.{attributeCost}
+use Rattle.attributes.proofs.AttributesExist.{attributes-exist, attribute-encodable, attribute-least}
+use Rattle.message.specs.Message.{Message}
+use Rattle.message.specs.Represents.{addressBits, messageLimit, markerSize, frameHeader, ipv4, bgp4mp, subtypeOf, UpdateBytes, BodyBytes, is-update, is-other, FrameBytes, PeerBytes, Represents}
+use Rattle.message.specs.Allowed.{AllowedNetwork, networkCost, AllowedUpdate, AllowedBody, for-update, for-other, Allowed}
 use Rattle.message.proofs.RecordFields.{width-most}
 
--- ---- messages that have records
-
--- a network that has a prefix: the bits past its length are cleared
-pub record AllowedNetwork (n : Network) : Type 0 where
-  pub short : n .len ≤ addressBits
-  pub below : n .address < 2 ^ addressBits
-  pub clear : n ≡ masked addressBits (n .address) (n .len)
-
--- the bytes of its prefix
-abbrev pub networkCost : Network → ℕ
-networkCost n = 1 + bytesFor (n .len)
-
--- the bytes of the body of an UPDATE, its attributes at their shortest
-abbrev pub updateCost : Message → ℕ
-updateCost m = 4 + total networkCost (m .withdrawn) + total (attributeCost (bytes (m .width))) (m .attributes) + total networkCost (m .announced)
-
--- an UPDATE that has a body: no code comes twice, and all of it fits
-pub record AllowedUpdate (m : Message) : Type 0 where
-  pub withdrawn : Every AllowedNetwork (m .withdrawn)
-  pub attributes : Every (Encodable (bytes (m .width))) (m .attributes)
-  pub once : Twice (map codeOf (m .attributes)) → ⊥
-  pub announced : Every AllowedNetwork (m .announced)
-  pub limited : 19 + updateCost m ≤ messageLimit
-
--- of any other message nothing more is said
-pub record AllowedOther (m : Message) : Type 0 where
-  pub no-withdrawn : m .withdrawn ≡ []
-  pub no-attributes : m .attributes ≡ []
-  pub no-announced : m .announced ≡ []
-
--- one or the other, by the message's type
-pub data AllowedBody (m : Message) : Type 0 where
-  for-update : m .kind ≡ update → AllowedUpdate m → AllowedBody m
-  for-other : (m .kind ≡ update → ⊥) → AllowedOther m → AllowedBody m
-
--- a message whose numbers fit their fields
-pub record Allowed (m : Message) : Type 0 where
-  pub seconds : m .seconds < 2 ^ 32
-  pub peerAs : m .peerAs < 256 ^ bytes (m .width)
-  pub peerAddress : m .peerAddress < 2 ^ 32
-  pub kind : m .kind < 256
-  pub body : AllowedBody m
-
--- ---- their records
+-- ---- an allowed message has a record
 
 -- networks have prefixes one after another
 networks-exist : {ns : List Network} → Every AllowedNetwork ns → (l : List ℕ) × Joined (PrefixBytes addressBits) ns l × (length l ≡ total networkCost ns)
@@ -79,13 +36,13 @@ same-field w {n} h e = let f = bytes-field w n h in record { long = f .long; oct
 
 -- bytes of any value
 any-bytes : (w : ℕ) → Free w (bytesOf w 0)
-any-bytes w = record { long = bytes-length w 0; octets = bytes-octets w 0 }
+any-bytes w = record { long = bytes-length w 0; octets = bytes-octets w 0; value = refl }
 
 -- the body of an UPDATE
-update-exists : {m : Message} → AllowedUpdate m → (l : List ℕ) × UpdateBytes m l × (19 + length l ≤ messageLimit)
+update-exists : {m : Message} → AllowedUpdate m → (l : List ℕ) × UpdateBytes m l × (frameHeader + length l ≤ messageLimit)
 update-exists {m} u =
     let x = networks-exist (u .withdrawn) in
-    let y = attributes-exist (bytes (m .width)) (u .attributes) in
+    let y = attributes-exist (widthBytes (m .width)) (u .attributes) in
     let z = networks-exist (u .announced) in
     let n = bytesOf 2 (length (x .0)) in
     let k = bytesOf 2 (length (y .0)) in (
@@ -108,7 +65,7 @@ update-exists {m} u =
     )
 
 -- the body of a message
-body-exists : {m : Message} → AllowedBody m → (l : List ℕ) × BodyBytes m l × (19 + length l ≤ messageLimit)
+body-exists : {m : Message} → AllowedBody m → (l : List ℕ) × BodyBytes m l × (frameHeader + length l ≤ messageLimit)
 body-exists (for-update e u) = let x = update-exists u in (x .0, is-update e (x .1), x .2)
 body-exists (for-other n x) =
     ([], is-other n (record { octets = octets-none; no-withdrawn = x .no-withdrawn; no-attributes = x .no-attributes; no-announced = x .no-announced }), omega arith)
@@ -117,10 +74,10 @@ body-exists (for-other n x) =
 frame-exists : {m : Message} → Allowed m → (l : List ℕ) × FrameBytes m l
 frame-exists {m} h =
     let b = body-exists (h .body) in
-    let n = 19 + length (b .0) in
+    let n = frameHeader + length (b .0) in
     let size = bytesOf 2 n in
     let kind = bytesOf 1 (m .kind) in
-    let l = replicate 16 255 ++ (size ++ (kind ++ b .0)) in
+    let l = replicate markerSize 255 ++ (size ++ (kind ++ b .0)) in
     let long : n ≡ length l = simp length-append (omega (arith, bytes-length 2 n, bytes-length 1 (m .kind))) in (
       l,
       record {
@@ -138,14 +95,14 @@ frame-exists {m} h =
 -- what follows the header
 peer-exists : {m : Message} → Allowed m → (l : List ℕ) × PeerBytes m l × (length l < 256 ^ 4)
 peer-exists {m} h =
-    let w = bytes (m .width) in
+    let w = widthBytes (m .width) in
     let f = frame-exists h in (
-      bytesOf w (m .peerAs) ++ (bytesOf w 0 ++ (bytesOf 2 0 ++ (bytesOf 2 1 ++ (bytesOf 4 (m .peerAddress) ++ (bytesOf 4 0 ++ f .0))))),
+      bytesOf w (m .peerAs) ++ (bytesOf w 0 ++ (bytesOf 2 0 ++ (bytesOf 2 ipv4 ++ (bytesOf 4 (m .peerAddress) ++ (bytesOf 4 0 ++ f .0))))),
       record {
         peerAs = bytesOf w (m .peerAs);
         localAs = bytesOf w 0;
         interface = bytesOf 2 0;
-        family = bytesOf 2 1;
+        family = bytesOf 2 ipv4;
         peerAddress = bytesOf 4 (m .peerAddress);
         localAddress = bytesOf 4 0;
         frame = f .0;
@@ -153,7 +110,7 @@ peer-exists {m} h =
         peerAs-is = bytes-field w (m .peerAs) (h .peerAs);
         localAs-free = any-bytes w;
         interface-free = any-bytes 2;
-        family-is = bytes-field 2 1 (omega arith);
+        family-is = bytes-field 2 ipv4 (omega arith);
         peerAddress-is = bytes-field 4 (m .peerAddress) (h .peerAddress);
         localAddress-free = any-bytes 4;
         frame-is = f .1;
@@ -166,7 +123,7 @@ subtype-below : (w : Width) → subtypeOf w < 256 ^ 2
 subtype-below Two = omega arith
 subtype-below Four = omega arith
 
--- such a message has a record
+-- an allowed message has a record
 pub represents-exists : (m : Message) → Allowed m → (s : List ℕ) × Represents m s
 represents-exists m h =
     let p = peer-exists h in (
@@ -185,3 +142,60 @@ represents-exists m h =
         rest-is = p .1;
       },
     )
+
+-- ---- a message that has a record is allowed
+
+-- networks that have prefixes are allowed
+networks-allowed : {ns : List Network} {l : List ℕ} → Joined (PrefixBytes addressBits) ns l → Every AllowedNetwork ns
+networks-allowed j =
+    joined-every
+    (λ n bytes p. record { short = p .sized; below = prefix-below addressBits p refl; clear = prefix-clear addressBits p })
+    j
+
+-- and their prefixes have the bytes that they cost
+networks-length : {ns : List Network} {l : List ℕ} → Joined (PrefixBytes addressBits) ns l → length l ≡ total networkCost ns
+networks-length j = joined-length networkCost (λ n bytes p. prefix-length addressBits p) j
+
+-- the body of an UPDATE
+update-allowed : {m : Message} {l : List ℕ} → UpdateBytes m l → frameHeader + length l ≤ messageLimit → AllowedUpdate m
+update-allowed {m} u h =
+    let w = widthBytes (m .width) in
+    let e = ap length (u .joined) in
+    record {
+      withdrawn = networks-allowed (u .withdrawn-are);
+      attributes = joined-every (λ a bytes x. attribute-encodable w x) (u .attributes-are);
+      once = u .once;
+      announced = networks-allowed (u .announced-are);
+      limited = omega (
+        arith,
+        simp length-append at e,
+        u .withdrawn-sized .long,
+        networks-length (u .withdrawn-are),
+        u .attributes-sized .long,
+        joined-most (attributeCost w) (λ a bytes x. attribute-least w x) (u .attributes-are),
+        networks-length (u .announced-are),
+      );
+    }
+
+-- the body of a message
+body-allowed : {m : Message} {l : List ℕ} → BodyBytes m l → frameHeader + length l ≤ messageLimit → AllowedBody m
+body-allowed (is-update e u) h = for-update e (update-allowed u h)
+body-allowed (is-other n x) h =
+    for-other n (record { no-withdrawn = x .no-withdrawn; no-attributes = x .no-attributes; no-announced = x .no-announced })
+
+-- the body fits where the frame does
+frame-fits : {m : Message} {l : List ℕ} (f : FrameBytes m l) → frameHeader + length (f .body) ≤ messageLimit
+frame-fits f = let e = ap length (f .joined) in omega (arith, simp length-append at e, f .sized .long, f .kind-is .long, f .limited)
+
+-- a message that has a record is allowed
+pub represents-allowed : {m : Message} {s : List ℕ} → Represents m s → Allowed m
+represents-allowed r =
+    let p = r .rest-is in
+    let f = p .frame-is in
+    record {
+      seconds = field-below (r .seconds-is);
+      peerAs = field-below (p .peerAs-is);
+      peerAddress = field-below (p .peerAddress-is);
+      kind = field-below (f .kind-is);
+      body = body-allowed (f .body-is) (frame-fits f);
+    }

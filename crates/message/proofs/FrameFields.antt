@@ -7,7 +7,7 @@ use lib.ListN.{take, drop, replicate, length-append}
 use Rattle.octets.specs.Numbers.{Octets}
 use Rattle.octets.proofs.Numbers.{number-one}
 use Rattle.message.specs.Message.{Message}
-use Rattle.message.specs.Represents.{BodyBytes, FrameBytes}
+use Rattle.message.specs.Represents.{markerSize, frameHeader, BodyBytes, FrameBytes}
 use Rattle.message.specs.Fields.{kindField}
 use Rattle.message.proofs.Places.{Stands, here, field-here, after, cut, field-of}
 use Rattle.message.proofs.Checks.{RightFrame}
@@ -16,15 +16,15 @@ use Rattle.message.proofs.Checks.{RightFrame}
 pub record FrameFields (m : Message) (l : List ℕ) : Type 0 where
   pub right : RightFrame l
   pub kind : kindField l ≡ m .kind
-  pub body-is : BodyBytes m (drop 19 l)
+  pub body-is : BodyBytes m (drop frameHeader l)
 
 -- a message's frame has its type and its length at their places
 pub frame-fields : {m : Message} {l : List ℕ} → FrameBytes m l → FrameFields m l
 frame-fields {m} {l} f =
-    let f0 : Stands l 0 (replicate 16 255) (f .size ++ (f .kind ++ f .body)) = record { cut = f .joined } in
+    let f0 : Stands l 0 (replicate markerSize 255) (f .size ++ (f .kind ++ f .body)) = record { cut = f .joined } in
     let f16 : Stands l 16 (f .size) (f .kind ++ f .body) = record { cut = after f0 16 refl } in
     let f18 : Stands l 18 (f .kind) (f .body) = record { cut = after f16 18 (omega (arith, f .sized .long)) } in
-    let f19 : drop 19 l ≡ f .body = after f18 19 (omega (arith, f .kind-is .long)) in
+    let f19 : drop frameHeader l ≡ f .body = after f18 19 (omega (arith, f .kind-is .long)) in
     record {
       right = record {
         long = rw (f .joined) (simp length-append (omega (arith, f .sized .long, f .kind-is .long)));
@@ -43,10 +43,10 @@ fields-frame {m} {l} o f =
     record {
       size = take 2 (drop 16 l);
       kind = take 1 (drop 18 l);
-      body = drop 19 l;
+      body = drop frameHeader l;
       joined =
           cut l 0 16 16 refl (cut l 16 2 18 refl (cut l 18 1 19 refl refl))
-          ∙ ap (λ (x : List ℕ). x ++ (take 2 (drop 16 l) ++ (take 1 (drop 18 l) ++ drop 19 l))) (f .right .marked);
+          ∙ ap (λ (x : List ℕ). x ++ (take 2 (drop 16 l) ++ (take 1 (drop 18 l) ++ drop frameHeader l))) (f .right .marked);
       sized = field-of o 16 2 (omega arith) (f .right .even);
       limited = f .right .limited;
       kind-is = field-of o 18 1 (omega arith) (number-one l 18 ∙ f .kind);

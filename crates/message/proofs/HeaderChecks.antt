@@ -1,13 +1,14 @@
 -- Each check of a record's header, peer part and frame decides the condition of its row. Assumes nothing.
-use Prim.Native.Nat.{ℕ, zero, suc}
-use native.Mathlib.Omega.{arith}
-use mathlib.Core.Path.{_≡_, refl}
+use Prim.Native.Nat.{ℕ}
+use mathlib.Core.Path.{_≡_}
 use mathlib.Core.Bool.{true}
-use mathlib.Core.List.{List, [], _∷_}
+use mathlib.Core.List.{List}
 use lib.ListN.{take, replicate}
-use lib.Dec.{eqb}
-use borrow.Author.Tests.{ltb-true, eqb-true, eqb-false, not-true, lt-ltb, eq-eqb, ne-eqb}
-use Rattle.octets.proofs.Choices.{never, either, each}
+use borrow.Author.Tests.{ltb-true, eqb-false, not-true, lt-ltb, ne-eqb}
+use Rattle.octets.proofs.Choices.{either}
+use Rattle.aspath.specs.declared.Width.{Width}
+use Rattle.aspath.specs.declared.Width.the-variants.{Two, Four}
+use Rattle.message.specs.Represents.{markerSize, subtypeOf}
 use Rattle.message.specs.Fields.{widthOf}
 use Rattle.message.specs.Refusals.{WrongSize, WrongKind, WrongPeer, WrongFrame}
 use Rattle.message.specs.Decode.{wrongSize, wrongKind, wrongPeer, ones, wrongFrame}
@@ -30,6 +31,11 @@ size-decides s = record { sound = sound; complete = complete }
     complete (WrongSize.long h) = simp (lt-ltb _ _ h, settled)
     complete (WrongSize.uneven n) = simp (ne-eqb _ _ n, settled)
 
+-- a number that is the subtype of neither width is that of none
+neither-width : {n : ℕ} → (n ≡ subtypeOf Two → ⊥) → (n ≡ subtypeOf Four → ⊥) → (w : Width) → n ≡ subtypeOf w → ⊥
+neither-width two four Two = two
+neither-width two four Four = four
+
 -- row 12
 pub kind-decides : (s : List ℕ) → Decides (wrongKind s) (WrongKind s)
 unfolding wrongKind
@@ -39,11 +45,11 @@ kind-decides s = record { sound = sound; complete = complete }
     sound e =
         unless _ _ e
         (λ h. WrongKind.other-type (eqb-false _ _ h))
-        (λ f. let b = without _ _ f in WrongKind.other-subtype (eqb-false _ _ (b .0)) (eqb-false _ _ (not-true _ (b .1))))
+        (λ f. let b = without _ _ f in WrongKind.other-subtype (neither-width (eqb-false _ _ (b .0)) (eqb-false _ _ (not-true _ (b .1)))))
 
     complete : WrongKind s → wrongKind s ≡ true
     complete (WrongKind.other-type n) = simp (ne-eqb _ _ n)
-    complete (WrongKind.other-subtype n m) = simp (ne-eqb _ _ n, ne-eqb _ _ m, settled)
+    complete (WrongKind.other-subtype n) = simp (ne-eqb _ _ (n Two), ne-eqb _ _ (n Four), settled)
 
 -- row 13
 pub peer-decides : (s : List ℕ) → Decides (wrongPeer (widthOf s) s) (WrongPeer s)
@@ -71,10 +77,10 @@ frame-decides m = record { sound = sound; complete = complete }
         either _ _ e
         (λ h. WrongFrame.short (ltb-true _ _ h))
         (λ f. either _ _ f (λ h. WrongFrame.long (ltb-true _ _ h))
-        (λ g. unless _ _ g (λ h. WrongFrame.unmarked (decides-false (ones-decides 16 m) h)) (λ h. WrongFrame.uneven (eqb-false _ _ (not-true _ h)))))
+        (λ g. unless _ _ g (λ h. WrongFrame.unmarked (decides-false (ones-decides markerSize m) h)) (λ h. WrongFrame.uneven (eqb-false _ _ (not-true _ h)))))
 
     complete : WrongFrame m → wrongFrame m ≡ true
     complete (WrongFrame.short h) = simp (lt-ltb _ _ h)
     complete (WrongFrame.long h) = simp (lt-ltb _ _ h, settled)
-    complete (WrongFrame.unmarked n) = simp (decides-not (ones-decides 16 m) n, settled)
+    complete (WrongFrame.unmarked n) = simp (decides-not (ones-decides markerSize m) n, settled)
     complete (WrongFrame.uneven n) = simp (ne-eqb _ _ n, settled)

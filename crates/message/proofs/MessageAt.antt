@@ -6,10 +6,11 @@ use mathlib.Core.List.{List, []}
 use lib.ListN.{length, take, drop, length-drop}
 use lib.Seq.{take-all, drop-drop}
 use Rattle.aspath.specs.declared.Width.{Width}
-use Rattle.aspath.specs.Wire.{bytes}
+use Rattle.aspath.specs.Wire.{widthBytes}
 use Rattle.attributes.specs.Bodies.{attributesOf}
 use Rattle.message.specs.Message.{Message, update}
-use Rattle.message.specs.Fields.{secondsField, frame, peerAsField, peerAddressField, kindField, bodyStart, body, withdrawnSize, attributesSize, withdrawnIn, attributesIn, announcedIn}
+use Rattle.octets.specs.Header.{secondsField}
+use Rattle.message.specs.Fields.{frame, peerAsField, peerAddressField, kindField, bodyStart, body, withdrawnSize, attributesSize, withdrawnIn, attributesIn, announcedIn}
 use Rattle.message.specs.Decode.{networksOf, messageAt, otherParts, updateParts}
 
 -- a message of a record's numbers, of a type and with three lists
@@ -21,7 +22,7 @@ messageWith w s kind withdrawn attributes announced = record {
   peerAddress = peerAddressField w s;
   kind = kind;
   withdrawn = networksOf withdrawn;
-  attributes = attributesOf (bytes w) attributes;
+  attributes = attributesOf (widthBytes w) attributes;
   announced = networksOf announced;
 }
 

@@ -2,7 +2,7 @@
 use Prim.Native.Nat.{ℕ, _+_, _≤_}
 use native.Mathlib.Nat.{add-zero}
 use native.Mathlib.Omega.{arith}
-use mathlib.Core.Path.{_≡_, sym, ap, _∙_}
+use mathlib.Core.Path.{_≡_, refl, sym, ap, _∙_}
 use mathlib.Core.List.{List, _++_}
 use lib.ListN.{length, take, drop, length-drop, take-append-drop}
 use lib.Seq.{take-at, drop-drop, drop-append-seam}
@@ -52,4 +52,4 @@ field-of o at w h e = let f = field-cut o at w h in record { long = f .long; oct
 
 -- and so they are w bytes of any value
 pub free-cut : {s : List ℕ} → Octets s → (at w : ℕ) → at + w ≤ length s → Free w (take w (drop at s))
-free-cut o at w h = let f = field-cut o at w h in record { long = f .long; octets = f .octets }
+free-cut o at w h = let f = field-cut o at w h in record { long = f .long; octets = f .octets; value = refl }

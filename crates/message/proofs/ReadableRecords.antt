@@ -1,11 +1,10 @@
 -- A record is readable exactly when it represents some message. Assumes nothing.
 use Prim.Native.Nat.{ℕ}
-use mathlib.Core.Path.{_≡_, refl, sym, ap, _∙_}
+use mathlib.Core.Path.{_≡_}
 use mathlib.Core.List.{List}
 use Rattle.octets.specs.Numbers.{Octets}
 use Rattle.message.specs.declared.Parts.{Parts}
-use Rattle.message.specs.declared.Decoded.{Decoded}
-use Rattle.message.specs.declared.Decoded.the-variants.{Read, Refused}
+use Rattle.message.specs.declared.Decoded.the-variants.{Read}
 use Rattle.message.specs.Message.{Message}
 use Rattle.message.specs.Represents.{Represents}
 use Rattle.message.specs.Refusals.{Readable}

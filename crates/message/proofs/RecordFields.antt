@@ -7,14 +7,15 @@ use lib.ListN.{length, take, drop, length-append, length-drop}
 use Rattle.octets.specs.Numbers.{Octets}
 use Rattle.aspath.specs.declared.Width.{Width}
 use Rattle.aspath.specs.declared.Width.the-variants.{Two, Four}
-use Rattle.aspath.specs.Wire.{bytes}
+use Rattle.aspath.specs.Wire.{widthBytes}
 use Rattle.message.specs.Message.{Message}
-use Rattle.message.specs.Represents.{bgp4mp, subtypeOf, FrameBytes, Represents}
-use Rattle.message.specs.Fields.{headerSize, secondsField, typeField, subtypeField, lengthField, frameStart, peerAsField, familyField, peerAddressField, frame}
+use Rattle.message.specs.Represents.{ipv4, bgp4mp, subtypeOf, FrameBytes, Represents}
+use Rattle.octets.specs.Header.{headerSize, secondsField, typeField, subtypeField, lengthField}
+use Rattle.message.specs.Fields.{frameStart, peerAsField, familyField, peerAddressField, frame}
 use Rattle.message.proofs.Places.{Stands, field-here, after, cut, field-of, free-cut}
 
 -- an AS number has at most four bytes
-pub width-most : (w : Width) → bytes w ≤ 4
+pub width-most : (w : Width) → widthBytes w ≤ 4
 width-most Two = omega arith
 width-most Four = omega arith
 
@@ -26,14 +27,14 @@ pub record RecordFields (m : Message) (s : List ℕ) : Type 0 where
   pub even : headerSize + lengthField s ≡ length s
   pub fits : frameStart (m .width) ≤ length s
   pub peerAs : peerAsField (m .width) s ≡ m .peerAs
-  pub family : familyField (m .width) s ≡ 1
+  pub family : familyField (m .width) s ≡ ipv4
   pub peerAddress : peerAddressField (m .width) s ≡ m .peerAddress
   pub frame-is : FrameBytes m (frame (m .width) s)
 
 -- a message's record has its numbers at their places
 pub represents-fields : {m : Message} {s : List ℕ} → Represents m s → RecordFields m s
 represents-fields {m} {s} r =
-    let w = bytes (m .width) in
+    let w = widthBytes (m .width) in
     let start = frameStart (m .width) in
     let p = r .rest-is in
     let s0 : Stands s 0 (r .seconds) (r .type ++ (r .subtype ++ (r .size ++ r .rest))) = record { cut = r .joined } in
@@ -46,12 +47,12 @@ represents-fields {m} {s} r =
     = record { cut = after p0 (12 + w) (omega (arith, p .peerAs-is .long)) } in
     let p2 : Stands s (12 + 2 * w) (p .interface) (p .family ++ (p .peerAddress ++ (p .localAddress ++ p .frame)))
     = record { cut = after p1 (12 + 2 * w) (omega (arith, p .localAs-free .long)) } in
-    let p3 : Stands s (start - 10) (p .family) (p .peerAddress ++ (p .localAddress ++ p .frame))
-    = record { cut = after p2 (start - 10) (omega (arith, p .interface-free .long)) } in
-    let p4 : Stands s (start - 8) (p .peerAddress) (p .localAddress ++ p .frame)
-    = record { cut = after p3 (start - 8) (omega (arith, p .family-is .long)) } in
-    let p5 : Stands s (start - 4) (p .localAddress) (p .frame)
-    = record { cut = after p4 (start - 4) (omega (arith, p .peerAddress-is .long)) } in
+    let p3 : Stands s (12 + 2 * w + 2) (p .family) (p .peerAddress ++ (p .localAddress ++ p .frame))
+    = record { cut = after p2 (12 + 2 * w + 2) (omega (arith, p .interface-free .long)) } in
+    let p4 : Stands s (12 + 2 * w + 4) (p .peerAddress) (p .localAddress ++ p .frame)
+    = record { cut = after p3 (12 + 2 * w + 4) (omega (arith, p .family-is .long)) } in
+    let p5 : Stands s (12 + 2 * w + 8) (p .localAddress) (p .frame)
+    = record { cut = after p4 (12 + 2 * w + 8) (omega (arith, p .peerAddress-is .long)) } in
     let framed : frame (m .width) s ≡ p .frame = after p5 start (omega (arith, p .localAddress-free .long)) in
     let long : length s ≡ 12 + length (r .rest)
     = ap length (r .joined) ∙ simp length-append (omega (arith, r .seconds-is .long, r .type-is .long, r .subtype-is .long, r .sized .long)) in
@@ -72,7 +73,7 @@ represents-fields {m} {s} r =
 -- bytes with a message's numbers at their places are its record
 pub fields-represent : {m : Message} {s : List ℕ} → Octets s → RecordFields m s → Represents m s
 fields-represent {m} {s} o f =
-    let w = bytes (m .width) in
+    let w = widthBytes (m .width) in
     let start = frameStart (m .width) in
     let h = f .fits in
     record {
@@ -90,23 +91,23 @@ fields-represent {m} {s} o f =
         peerAs = take w (drop 12 s);
         localAs = take w (drop (12 + w) s);
         interface = take 2 (drop (12 + 2 * w) s);
-        family = take 2 (drop (start - 10) s);
-        peerAddress = take 4 (drop (start - 8) s);
-        localAddress = take 4 (drop (start - 4) s);
+        family = take 2 (drop (12 + 2 * w + 2) s);
+        peerAddress = take 4 (drop (12 + 2 * w + 4) s);
+        localAddress = take 4 (drop (12 + 2 * w + 8) s);
         frame = drop start s;
         joined =
             cut s 12 w (12 + w) refl
             (cut s (12 + w) w (12 + 2 * w) (omega arith)
-            (cut s (12 + 2 * w) 2 (start - 10) (omega arith)
-            (cut s (start - 10) 2 (start - 8) (omega arith)
-            (cut s (start - 8) 4 (start - 4) (omega arith)
-            (cut s (start - 4) 4 start (omega arith) refl)))));
+            (cut s (12 + 2 * w) 2 (12 + 2 * w + 2) (omega arith)
+            (cut s (12 + 2 * w + 2) 2 (12 + 2 * w + 4) (omega arith)
+            (cut s (12 + 2 * w + 4) 4 (12 + 2 * w + 8) (omega arith)
+            (cut s (12 + 2 * w + 8) 4 start (omega arith) refl)))));
         peerAs-is = field-of o 12 w (omega arith) (f .peerAs);
         localAs-free = free-cut o (12 + w) w (omega arith);
         interface-free = free-cut o (12 + 2 * w) 2 (omega arith);
-        family-is = field-of o (start - 10) 2 (omega arith) (f .family);
-        peerAddress-is = field-of o (start - 8) 4 (omega arith) (f .peerAddress);
-        localAddress-free = free-cut o (start - 4) 4 (omega arith);
+        family-is = field-of o (12 + 2 * w + 2) 2 (omega arith) (f .family);
+        peerAddress-is = field-of o (12 + 2 * w + 4) 4 (omega arith) (f .peerAddress);
+        localAddress-free = free-cut o (12 + 2 * w + 8) 4 (omega arith);
         frame-is = f .frame-is;
       };
     }

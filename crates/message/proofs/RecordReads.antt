@@ -13,13 +13,14 @@ use Rattle.octets.specs.Rows.{itemsIn}
 use Rattle.octets.proofs.Bytes.{octets-drop}
 use Rattle.aspath.specs.declared.Width.{Width}
 use Rattle.aspath.specs.declared.Width.the-variants.{Two, Four}
-use Rattle.aspath.specs.Wire.{bytes}
+use Rattle.aspath.specs.Wire.{widthBytes}
 use Rattle.attributes.specs.Bodies.{attributesOf}
 use Rattle.message.specs.declared.Parts.{Parts}
 use Rattle.message.specs.declared.Decoded.the-variants.{Read}
 use Rattle.message.specs.Message.{Message, update}
-use Rattle.message.specs.Represents.{bgp4mp, subtypeOf, BodyBytes, is-update, is-other, Represents}
-use Rattle.message.specs.Fields.{subtypeField, widthOf, secondsField, peerAsField, peerAddressField, frameStart, typeField, frame, kindField, bodyStart, body, withdrawnIn, attributesIn, announcedIn}
+use Rattle.message.specs.Represents.{frameHeader, bgp4mp, subtypeOf, BodyBytes, is-update, is-other, Represents}
+use Rattle.octets.specs.Header.{subtypeField, secondsField, typeField}
+use Rattle.message.specs.Fields.{widthOf, peerAsField, peerAddressField, frameStart, frame, kindField, bodyStart, body, withdrawnIn, attributesIn, announcedIn}
 use Rattle.message.specs.Decode.{networksOf, messageAt, otherParts, updateParts, decodeOf}
 use Rattle.message.proofs.Checks.{RightSize, RightFrame, RightUpdate}
 use Rattle.message.proofs.Decoding.{partsAt, partsOf, PassesAt, Passes, passes-read, read-passes}
@@ -30,8 +31,8 @@ use Rattle.message.proofs.UpdateReads.{UpdateReads, update-reads, reads
 use Rattle.message.proofs.MessageAt.{messageWith, message-update, message-other}
 
 -- the body is what is left of the frame
-body-in : (w : Width) (s : List ℕ) → drop 19 (frame w s) ≡ body w s
-body-in w s = drop-drop 19 (frameStart w) s
+body-in : (w : Width) (s : List ℕ) → drop frameHeader (frame w s) ≡ body w s
+body-in w s = drop-drop frameHeader (frameStart w) s
 
 -- ---- a message's record is read as that message
 
@@ -51,7 +52,7 @@ parts-other w s n = simp (ne-eqb _ _ n)
 
 -- a message of a record's numbers is the one whose record it is, where its type and its lists are
 with-fields : {m : Message} {s : List ℕ} → RecordFields m s → {kind : ℕ} (withdrawn attributes announced : List ℕ) → kind ≡ m .kind
-    → networksOf withdrawn ≡ m .withdrawn → attributesOf (bytes (m .width)) attributes ≡ m .attributes → networksOf announced ≡ m .announced
+    → networksOf withdrawn ≡ m .withdrawn → attributesOf (widthBytes (m .width)) attributes ≡ m .attributes → networksOf announced ≡ m .announced
     → messageWith (m .width) s kind withdrawn attributes announced ≡ m
 with-fields {m} f withdrawn attributes announced k x y z =
     λ i. record {

@@ -8,7 +8,7 @@ use lib.Seq.{length-take-le}
 use Rattle.octets.specs.Numbers.{Octets}
 use Rattle.octets.specs.Rows.{Joined}
 use Rattle.network.specs.Wire.{PrefixBytes}
-use Rattle.aspath.specs.Wire.{bytes}
+use Rattle.aspath.specs.Wire.{widthBytes}
 use Rattle.attributes.specs.Attribute.{codeOf}
 use Rattle.attributes.specs.Bodies.{AttributeBytes}
 use Rattle.attributes.specs.Codes.{Twice}
@@ -21,7 +21,7 @@ use Rattle.message.proofs.Places.{Stands, here, field-here, after, cut,
 pub record UpdateFields (m : Message) (b : List ℕ) : Type 0 where
   pub fits : 4 + withdrawnSize b + attributesSize b ≤ length b
   pub withdrawn-are : Joined (PrefixBytes addressBits) (m .withdrawn) (withdrawnIn b)
-  pub attributes-are : Joined (AttributeBytes (bytes (m .width))) (m .attributes) (attributesIn b)
+  pub attributes-are : Joined (AttributeBytes (widthBytes (m .width))) (m .attributes) (attributesIn b)
   pub once : Twice (map codeOf (m .attributes)) → ⊥
   pub announced-are : Joined (PrefixBytes addressBits) (m .announced) (announcedIn b)
 

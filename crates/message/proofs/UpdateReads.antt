@@ -11,7 +11,7 @@ use Rattle.octets.proofs.Rows.{joined-whole, joined-items, whole-joined}
 use Rattle.network.specs.declared.Network.{Network}
 use Rattle.network.specs.Wire.{PrefixBytes, prefixSize}
 use Rattle.network.proofs.Prefixes.{prefix-reads}
-use Rattle.aspath.specs.Wire.{bytes}
+use Rattle.aspath.specs.Wire.{widthBytes}
 use Rattle.attributes.specs.Bodies.{AttributeBytes, attributesOf}
 use Rattle.attributes.specs.Codes.{Twice, distinct}
 use Rattle.attributes.proofs.MeaningCodes.{twice-sound, twice-complete}
@@ -27,7 +27,7 @@ use Rattle.message.proofs.UpdateFields.{UpdateFields}
 pub record UpdateReads (m : Message) (b : List ℕ) : Type 0 where
   pub right : RightUpdate (m .width) b
   pub withdrawn : networksOf (withdrawnIn b) ≡ m .withdrawn
-  pub attributes : attributesOf (bytes (m .width)) (attributesIn b) ≡ m .attributes
+  pub attributes : attributesOf (widthBytes (m .width)) (attributesIn b) ≡ m .attributes
   pub announced : networksOf (announcedIn b) ≡ m .announced
 
 -- where no code stands at two places, the codes are distinct
@@ -41,7 +41,7 @@ once-distinct cs f = go (distinct cs) refl
 -- sections at their places are read back
 pub update-reads : {m : Message} {b : List ℕ} → UpdateFields m b → UpdateReads m b
 update-reads {m} {b} f =
-    let t = joined-raws (bytes (m .width)) (f .attributes-are) in
+    let t = joined-raws (widthBytes (m .width)) (f .attributes-are) in
     record {
       right = record {
         fits = f .fits;
@@ -63,7 +63,7 @@ section-networks o h e = rw e at (whole-joined (prefix-reads addressBits) o h)
 -- what is read of sections is at their places
 pub reads-update : {m : Message} {b : List ℕ} → Octets b → UpdateReads m b → UpdateFields m b
 reads-update {m} {b} o r =
-    let w = bytes (m .width) in
+    let w = widthBytes (m .width) in
     let n = withdrawnSize b in
     let k = attributesSize b in
     let x = r .right in

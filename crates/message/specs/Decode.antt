@@ -2,34 +2,35 @@
 use Prim.Native.Nat.{ℕ, zero, suc, _+_, _-_}
 use mathlib.Core.Bool.{Bool, true, false, not}
 use mathlib.Core.List.{List}
-use lib.ListN.{length, getD, take, drop, replicate}
-use lib.Dec.{leb, ltb, eqb}
+use lib.ListN.{length, getD, drop}
+use lib.Dec.{ltb, eqb}
 use Rattle.octets.specs.Choice.{pick}
-use Rattle.octets.specs.Numbers.{numberAt}
+use Rattle.octets.specs.Parts.{partAt}
 use Rattle.octets.specs.Rows.{whole, items}
 use Rattle.network.specs.declared.Network.{Network}
 use Rattle.network.specs.Wire.{prefixSize, networkOf}
 use Rattle.aspath.specs.declared.Width.{Width}
-use Rattle.aspath.specs.Wire.{bytes}
-use Rattle.attributes.specs.Wire.{attributeSize, rawsOf, codes}
-use Rattle.attributes.specs.Codes.{distinct}
+use Rattle.aspath.specs.declared.Width.the-variants.{Two, Four}
+use Rattle.aspath.specs.Wire.{widthBytes}
+use Rattle.attributes.specs.Wire.{rawsOf}
+use Rattle.attributes.specs.Codes.{isSound}
 use Rattle.attributes.specs.Bodies.{allRight, attributesOf}
 use Rattle.message.specs.declared.Part.{Part}
 use Rattle.message.specs.declared.Parts.{Parts}
-use Rattle.message.specs.declared.Refusal.{Refusal}
 use Rattle.message.specs.declared.Refusal.the-variants.{Size, Kind, Peer, Frame, Sections, Attributes, Body, Prefix}
 use Rattle.message.specs.declared.Decoded.{Decoded}
 use Rattle.message.specs.declared.Decoded.the-variants.{Read, Refused}
 use Rattle.message.specs.Message.{Message, update}
-use Rattle.message.specs.Represents.{addressBits, messageLimit, bgp4mp}
-use Rattle.message.specs.Fields.{headerSize, secondsField, typeField, subtypeField, lengthField, widthOf, frameStart, peerAsField, familyField, peerAddressField, frame, frameLength, kindField, bodyStart, body, withdrawnSize, attributesSize, withdrawnIn, attributesIn, announcedIn}
+use Rattle.message.specs.Represents.{addressBits, messageLimit, markerSize, frameHeader, ipv4, bgp4mp, subtypeOf}
+use Rattle.octets.specs.Header.{headerSize, secondsField, typeField, subtypeField, lengthField}
+use Rattle.message.specs.Fields.{widthOf, frameStart, peerAsField, familyField, peerAddressField, frame, frameLength, kindField, bodyStart, body, withdrawnSize, attributesSize, withdrawnIn, attributesIn, announcedIn}
 use Rattle.message.specs.Refusals.{recordLimit}
 
 -- ---- what the answer stands for
 
 -- the bytes of a part, as many as the record has
 abbrev pub partOf : List ℕ → Part → List ℕ
-partOf s p = take (p .len) (drop (p .start) s)
+partOf s p = partAt s (p .start) (p .len)
 
 -- the networks of a section of prefixes
 abbrev pub networksOf : List ℕ → List Network
@@ -44,7 +45,7 @@ messageAt s p = record {
   peerAddress = p .address;
   kind = p .kind;
   withdrawn = networksOf (partOf s (p .withdrawn));
-  attributes = attributesOf (bytes (p .width)) (partOf s (p .attributes));
+  attributes = attributesOf (widthBytes (p .width)) (partOf s (p .attributes));
   announced = networksOf (partOf s (p .announced));
 }
 
@@ -59,11 +60,11 @@ wrongSize s =
 unfoldable pub wrongKind : List ℕ → Bool
 wrongKind s =
     pick (eqb (typeField s) bgp4mp)
-    (pick (eqb (subtypeField s) 1) false (not (eqb (subtypeField s) 4)))
+    (pick (eqb (subtypeField s) (subtypeOf Two)) false (not (eqb (subtypeField s) (subtypeOf Four))))
     true
 
 unfoldable pub wrongPeer : Width → List ℕ → Bool
-wrongPeer w s = pick (ltb (length s) (frameStart w)) true (not (eqb (familyField w s) 1))
+wrongPeer w s = pick (ltb (length s) (frameStart w)) true (not (eqb (familyField w s) ipv4))
 
 -- the first n bytes are each 0xFF
 unfoldable pub ones : ℕ → List ℕ → Bool
@@ -72,9 +73,9 @@ ones (suc n) m = pick (eqb (getD m 0 0) 255) (ones n (drop 1 m)) false
 
 unfoldable pub wrongFrame : List ℕ → Bool
 wrongFrame m =
-    pick (ltb (length m) 19) true
+    pick (ltb (length m) frameHeader) true
     (pick (ltb messageLimit (length m)) true
-    (pick (ones 16 m) (not (eqb (frameLength m) (length m))) true))
+    (pick (ones markerSize m) (not (eqb (frameLength m) (length m))) true))
 
 unfoldable pub wrongSections : List ℕ → Bool
 wrongSections b =
@@ -82,10 +83,10 @@ wrongSections b =
     (ltb (length b) (4 + withdrawnSize b + attributesSize b))
 
 unfoldable pub wrongAttributes : List ℕ → Bool
-wrongAttributes l = not (pick (whole attributeSize l) (distinct (codes (rawsOf l))) false)
+wrongAttributes l = not (isSound l)
 
 unfoldable pub wrongBody : Width → List ℕ → Bool
-wrongBody w l = not (allRight (bytes w) (rawsOf l))
+wrongBody w l = not (allRight (widthBytes w) (rawsOf l))
 
 unfoldable pub wrongPrefix : List ℕ → List ℕ → Bool
 wrongPrefix withdrawn announced =

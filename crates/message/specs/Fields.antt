@@ -1,48 +1,35 @@
 -- Where the fields of a record stand: a field past the end reads 0.
-use Prim.Native.Nat.{ℕ, _+_, _-_, _*_}
+use Prim.Native.Nat.{ℕ, _+_, _*_}
 use mathlib.Core.List.{List}
-use lib.ListN.{length, getD, take, drop}
+use lib.ListN.{getD, drop}
 use lib.Dec.{eqb}
 use Rattle.octets.specs.Choice.{pick}
 use Rattle.octets.specs.Numbers.{numberAt}
+use Rattle.octets.specs.Header.{headerSize, subtypeField}
+use Rattle.octets.specs.Parts.{partAt}
 use Rattle.aspath.specs.declared.Width.{Width}
 use Rattle.aspath.specs.declared.Width.the-variants.{Two, Four}
-use Rattle.aspath.specs.Wire.{bytes}
+use Rattle.aspath.specs.Wire.{widthBytes}
+use Rattle.message.specs.Represents.{markerSize, frameHeader, subtypeOf}
 
--- the header
-
-abbrev pub headerSize : ℕ
-headerSize = 12
-
-abbrev pub secondsField : List ℕ → ℕ
-secondsField s = numberAt s 0 4
-
-abbrev pub typeField : List ℕ → ℕ
-typeField s = numberAt s 4 2
-
-abbrev pub subtypeField : List ℕ → ℕ
-subtypeField s = numberAt s 6 2
-
-abbrev pub lengthField : List ℕ → ℕ
-lengthField s = numberAt s 8 4
-
--- subtype 1 has AS numbers of two bytes
+-- the width of the AS numbers, by the subtype
 abbrev pub widthOf : List ℕ → Width
-widthOf s = pick (eqb (subtypeField s) 1) Two Four
+widthOf s = pick (eqb (subtypeField s) (subtypeOf Two)) Two Four
 
--- the peer part, at a width
-
-abbrev pub frameStart : Width → ℕ
-frameStart w = headerSize + 2 * bytes w + 12
+-- the peer part, at a width: two AS numbers, the interface (2), the family (2), two addresses (4 each)
 
 abbrev pub peerAsField : Width → List ℕ → ℕ
-peerAsField w s = numberAt s headerSize (bytes w)
+peerAsField w s = numberAt s headerSize (widthBytes w)
 
 abbrev pub familyField : Width → List ℕ → ℕ
-familyField w s = numberAt s (frameStart w - 10) 2
+familyField w s = numberAt s (headerSize + 2 * widthBytes w + 2) 2
 
 abbrev pub peerAddressField : Width → List ℕ → ℕ
-peerAddressField w s = numberAt s (frameStart w - 8) 4
+peerAddressField w s = numberAt s (headerSize + 2 * widthBytes w + 4) 4
+
+-- what follows it
+abbrev pub frameStart : Width → ℕ
+frameStart w = headerSize + 2 * widthBytes w + 12
 
 -- the BGP message: sixteen bytes of marker, its length, its type, its body
 
@@ -50,13 +37,13 @@ abbrev pub frame : Width → List ℕ → List ℕ
 frame w s = drop (frameStart w) s
 
 abbrev pub frameLength : List ℕ → ℕ
-frameLength m = numberAt m 16 2
+frameLength m = numberAt m markerSize 2
 
 abbrev pub kindField : List ℕ → ℕ
-kindField m = getD m 18 0
+kindField m = getD m (markerSize + 2) 0
 
 abbrev pub bodyStart : Width → ℕ
-bodyStart w = frameStart w + 19
+bodyStart w = frameStart w + frameHeader
 
 abbrev pub body : Width → List ℕ → List ℕ
 body w s = drop (bodyStart w) s
@@ -70,10 +57,10 @@ abbrev pub attributesSize : List ℕ → ℕ
 attributesSize b = numberAt b (2 + withdrawnSize b) 2
 
 abbrev pub withdrawnIn : List ℕ → List ℕ
-withdrawnIn b = take (withdrawnSize b) (drop 2 b)
+withdrawnIn b = partAt b 2 (withdrawnSize b)
 
 abbrev pub attributesIn : List ℕ → List ℕ
-attributesIn b = take (attributesSize b) (drop (4 + withdrawnSize b) b)
+attributesIn b = partAt b (4 + withdrawnSize b) (attributesSize b)
 
 abbrev pub announcedIn : List ℕ → List ℕ
 announcedIn b = drop (4 + withdrawnSize b + attributesSize b) b

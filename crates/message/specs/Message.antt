@@ -9,7 +9,7 @@ use Rattle.attributes.specs.Attribute.{Attribute}
 abbrev pub update : ℕ
 update = 2
 
--- a message as a collector stored it; of a message that is no UPDATE nothing more is read
+-- a message as a collector stored it; of a message that is no UPDATE the three lists are empty
 pub record Message : Type 0 where
   pub seconds : ℕ
   pub width : Width

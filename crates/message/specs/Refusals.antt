@@ -7,15 +7,17 @@ use lib.ListN.{length, take, replicate}
 use Rattle.octets.specs.Rows.{Joined}
 use Rattle.network.specs.declared.Network.{Network}
 use Rattle.network.specs.Wire.{PrefixBytes}
-use Rattle.aspath.specs.Wire.{bytes}
+use Rattle.aspath.specs.declared.Width.{Width}
+use Rattle.aspath.specs.Wire.{widthBytes}
 use Rattle.attributes.specs.Wire.{Raw, RawBytes, codes}
 use Rattle.attributes.specs.Codes.{Twice}
 use Rattle.attributes.specs.Bodies.{SomeWrong}
 use Rattle.message.specs.declared.Refusal.{Refusal}
 use Rattle.message.specs.declared.Refusal.the-variants.{Size, Kind, Peer, Frame, Sections, Attributes, Body, Prefix}
 use Rattle.message.specs.Message.{update}
-use Rattle.message.specs.Represents.{addressBits, messageLimit, bgp4mp}
-use Rattle.message.specs.Fields.{headerSize, typeField, subtypeField, lengthField, widthOf, frameStart, familyField, frame, frameLength, kindField, body, withdrawnSize, attributesSize, withdrawnIn, attributesIn, announcedIn}
+use Rattle.message.specs.Represents.{addressBits, messageLimit, markerSize, frameHeader, ipv4, bgp4mp, subtypeOf}
+use Rattle.octets.specs.Header.{headerSize, typeField, subtypeField, lengthField}
+use Rattle.message.specs.Fields.{widthOf, frameStart, familyField, frame, frameLength, kindField, body, withdrawnSize, attributesSize, withdrawnIn, attributesIn, announcedIn}
 
 -- the most bytes of a record that is read
 abbrev pub recordLimit : ℕ
@@ -41,18 +43,18 @@ pub data WrongSize (s : List ℕ) : Type 0 where
 -- 12: other type or subtype
 pub data WrongKind (s : List ℕ) : Type 0 where
   other-type : (typeField s ≡ bgp4mp → ⊥) → WrongKind s
-  other-subtype : (subtypeField s ≡ 1 → ⊥) → (subtypeField s ≡ 4 → ⊥) → WrongKind s
+  other-subtype : ((w : Width) → subtypeField s ≡ subtypeOf w → ⊥) → WrongKind s
 
 -- 13: peer part cut, or family not 1
 pub data WrongPeer (s : List ℕ) : Type 0 where
   cut : length s < frameStart (widthOf s) → WrongPeer s
-  other-family : (familyField (widthOf s) s ≡ 1 → ⊥) → WrongPeer s
+  other-family : (familyField (widthOf s) s ≡ ipv4 → ⊥) → WrongPeer s
 
 -- 14: message frame wrong: under 19 or over 4,096 bytes, no marker, or a length that isn't the bytes present
 pub data WrongFrame (m : List ℕ) : Type 0 where
-  short : length m < 19 → WrongFrame m
+  short : length m < frameHeader → WrongFrame m
   long : messageLimit < length m → WrongFrame m
-  unmarked : (take 16 m ≡ replicate 16 255 → ⊥) → WrongFrame m
+  unmarked : (take markerSize m ≡ replicate markerSize 255 → ⊥) → WrongFrame m
   uneven : (frameLength m ≡ length m → ⊥) → WrongFrame m
 
 -- 15: UPDATE sections don't fit: no room for the two lengths, for the withdrawn prefixes or for the attributes
@@ -98,7 +100,7 @@ rows =
     ∷ row Frame (λ s. WrongFrame (frame (widthOf s) s))
     ∷ row Sections (InUpdate WrongSections)
     ∷ row Attributes (InUpdate (λ b. WrongAttributes (attributesIn b)))
-    ∷ row Body (λ s. InUpdate (λ b. WrongBody (bytes (widthOf s)) (attributesIn b)) s)
+    ∷ row Body (λ s. InUpdate (λ b. WrongBody (widthBytes (widthOf s)) (attributesIn b)) s)
     ∷ row Prefix (InUpdate (λ b. WrongPrefix (withdrawnIn b) (announcedIn b)))
     ∷ []
 

@@ -1,15 +1,15 @@
 -- Which bytes are a message's record: the layouts of RFC 6396 (sections 2 and 4.4) and RFC 4271 (sections 4.1 and 4.3), built up
 -- by joining their parts.
-use Prim.Native.Nat.{ℕ, _+_, _≤_, _<_}
+use Prim.Native.Nat.{ℕ, _+_, _≤_}
 use mathlib.Core.Path.{_≡_}
-use mathlib.Core.List.{List, [], _∷_, _++_, map}
+use mathlib.Core.List.{List, [], _++_, map}
 use lib.ListN.{length, replicate}
 use Rattle.octets.specs.Numbers.{Octets, Free, Field}
 use Rattle.octets.specs.Rows.{Joined}
 use Rattle.network.specs.Wire.{PrefixBytes}
 use Rattle.aspath.specs.declared.Width.{Width}
 use Rattle.aspath.specs.declared.Width.the-variants.{Two, Four}
-use Rattle.aspath.specs.Wire.{bytes}
+use Rattle.aspath.specs.Wire.{widthBytes}
 use Rattle.attributes.specs.Attribute.{codeOf}
 use Rattle.attributes.specs.Bodies.{AttributeBytes}
 use Rattle.attributes.specs.Codes.{Twice}
@@ -22,6 +22,17 @@ addressBits = 32
 -- the most bytes of a BGP message
 abbrev pub messageLimit : ℕ
 messageLimit = 4096
+
+-- the marker of a BGP message, and all before its body: the marker, the length and the type
+abbrev pub markerSize : ℕ
+markerSize = 16
+
+abbrev pub frameHeader : ℕ
+frameHeader = 19
+
+-- the address family IPv4
+abbrev pub ipv4 : ℕ
+ipv4 = 1
 
 -- BGP4MP, and its subtypes for AS numbers of two bytes and of four
 abbrev pub bgp4mp : ℕ
@@ -43,7 +54,7 @@ pub record UpdateBytes (m : Message) (l : List ℕ) : Type 0 where
   pub withdrawn-sized : Field 2 (length withdrawn) withdrawnSize
   pub withdrawn-are : Joined (PrefixBytes addressBits) (m .withdrawn) withdrawn
   pub attributes-sized : Field 2 (length attributes) attributesSize
-  pub attributes-are : Joined (AttributeBytes (bytes (m .width))) (m .attributes) attributes
+  pub attributes-are : Joined (AttributeBytes (widthBytes (m .width))) (m .attributes) attributes
   pub once : Twice (map codeOf (m .attributes)) → ⊥
   pub announced-are : Joined (PrefixBytes addressBits) (m .announced) announced
 
@@ -63,13 +74,13 @@ pub record FrameBytes (m : Message) (l : List ℕ) : Type 0 where
   pub size : List ℕ
   pub kind : List ℕ
   pub body : List ℕ
-  pub joined : l ≡ replicate 16 255 ++ (size ++ (kind ++ body))
+  pub joined : l ≡ replicate markerSize 255 ++ (size ++ (kind ++ body))
   pub sized : Field 2 (length l) size
   pub limited : length l ≤ messageLimit
   pub kind-is : Field 1 (m .kind) kind
   pub body-is : BodyBytes m body
 
--- what follows the header: the peer's and the local AS number, the interface, the address family (1, IPv4), the peer's and the local
+-- what follows the header: the peer's and the local AS number, the interface, the address family, the peer's and the local
 -- address, and the BGP message; the local number and address and the interface are free
 pub record PeerBytes (m : Message) (l : List ℕ) : Type 0 where
   pub peerAs : List ℕ
@@ -80,15 +91,16 @@ pub record PeerBytes (m : Message) (l : List ℕ) : Type 0 where
   pub localAddress : List ℕ
   pub frame : List ℕ
   pub joined : l ≡ peerAs ++ (localAs ++ (interface ++ (family ++ (peerAddress ++ (localAddress ++ frame)))))
-  pub peerAs-is : Field (bytes (m .width)) (m .peerAs) peerAs
-  pub localAs-free : Free (bytes (m .width)) localAs
+  pub peerAs-is : Field (widthBytes (m .width)) (m .peerAs) peerAs
+  pub localAs-free : Free (widthBytes (m .width)) localAs
   pub interface-free : Free 2 interface
-  pub family-is : Field 2 1 family
+  pub family-is : Field 2 ipv4 family
   pub peerAddress-is : Field 4 (m .peerAddress) peerAddress
   pub localAddress-free : Free 4 localAddress
   pub frame-is : FrameBytes m frame
 
--- a record of type 16, subtype 1 or 4: its header (the time, the type, the subtype, the length of what follows) and what follows
+-- a record of type 16, subtype 1 or 4: its header (the time, the type, the subtype, the length of what follows) and what follows. It has at
+-- most 4,128 bytes, so the 8,192 of row 11 always hold (`represents-size`)
 pub record Represents (m : Message) (l : List ℕ) : Type 0 where
   pub seconds : List ℕ
   pub type : List ℕ

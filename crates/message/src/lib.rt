@@ -2,6 +2,7 @@
 ghost use mathlib.Core.Path.{_≡_};
 ghost use Prim.Native.Nat.{_≤_, _+_};
 ghost use lib.ListN.{length};
+ghost use Rattle.message.specs.Represents.{markerSize};
 ghost use Rattle.message.specs.Fields.{widthOf, frameStart, frame, kindField, bodyStart, body, withdrawnSize, attributesSize};
 ghost use Rattle.message.specs.Refusals.{number};
 ghost use Rattle.message.specs.Decode.{wrongSize, wrongKind, wrongPeer, ones, wrongFrame, wrongSections, wrongPrefix, otherParts, updateParts, updateOf, messageOf, decodeOf};
@@ -98,8 +99,8 @@ fn wrong_peer(s: &[u8], width: Width) -> bool
 }
 
 fn marker(m: &[u8]) -> bool
-    requires { ⌜ 16 ≤ length (now m) ⌝ }
-    ensures { λ r. ⌜ r ≡ ones 16 (now (m .entry)) ⌝ }
+    requires { ⌜ markerSize ≤ length (now m) ⌝ }
+    ensures { λ r. ⌜ r ≡ ones markerSize (now (m .entry)) ⌝ }
 {
     let mut i = 0;
     while i < 16 {

@@ -91,20 +91,6 @@ network-here w {s} at e o =
     rw (getD-drop at s 0 0, add-zero at, drop-drop 1 at s, own-bytes w (getD s at 0) e (octets-drop (at + 1) o), number-drop s (at + 1) 0 (w / 8), add-zero (at + 1))
     refl
 
--- the address of a network read has w bits
-pub network-lt : (w : ℕ) {l : List ℕ} → 8 * (w / 8) ≡ w → Octets l → networkOf w l .address < 2 ^ w
-unfolding networkOf
-network-lt w {l} e o =
-    let k = bytesFor (getD l 0 0) in
-    let a = numberAt (take k (drop 1 l)) 0 (w / 8) in
-    let h : a < 2 ^ w = rw (pow-bytes (w / 8), e) at (number-lt (take k (drop 1 l)) 0 (w / 8) (octets-take k (octets-drop 1 o) .below)) in
-    omega (arith, cleared-le w (getD l 0 0) a)
-
--- the bits past the length of a network read are cleared
-pub network-masked : (w : ℕ) (l : List ℕ) → networkOf w l ≡ masked w (networkOf w l .address) (networkOf w l .len)
-unfolding networkOf
-network-masked w l = rw cleared-again refl
-
 -- prefixes are read back
 pub prefix-reads : (w : ℕ) → Reads (PrefixBytes w) (prefixSize w) (networkOf w)
 unfolding networkOf
@@ -132,7 +118,7 @@ prefix-reads w = record {
           sized = s .short;
           address = take (bytesFor b) l;
           joined = rw (s .size, one-add) refl;
-          few = record { long = length-take-le (bytesFor b) l (omega arith); octets = octets-take (bytesFor b) (octets-drop 1 o) };
+          few = record { long = length-take-le (bytesFor b) l (omega arith); octets = octets-take (bytesFor b) (octets-drop 1 o); value = refl };
           network = refl;
         }
 
@@ -149,8 +135,27 @@ prefix-exists w n e h k m =
         sized = h;
         address = take (bytesFor (n .len)) s;
         joined = refl;
-        few = record { long = l; octets = octets-take (bytesFor (n .len)) (f .octets) };
+        few = record { long = l; octets = octets-take (bytesFor (n .len)) (f .octets); value = refl };
         network = rw (own-bytes w (n .len) e (f .octets), f .value) m;
       },
       omega arith,
     )
+
+-- and a network that has a prefix is so: its address has w bits, and those past its length are cleared
+module _ (w : ℕ) {n : Network} {bytes : List ℕ} (p : PrefixBytes w n bytes) where
+  pub prefix-length : length bytes ≡ 1 + bytesFor (n .len)
+  prefix-length = ap length (p .joined) ∙ omega (arith, p .few .long)
+
+  address-is : n .address ≡ cleared w (n .len) (numberAt (p .address) 0 (w / 8))
+  address-is = ap (λ (m : Network). m .address) (p .network)
+
+  pub prefix-below : 8 * (w / 8) ≡ w → n .address < 2 ^ w
+  prefix-below e =
+      let a = numberAt (p .address) 0 (w / 8) in
+      let h : a < 2 ^ w = rw (pow-bytes (w / 8), e) at (number-lt (p .address) 0 (w / 8) (p .few .octets .below)) in
+      omega (arith, address-is, cleared-le w (n .len) a)
+
+  pub prefix-clear : n ≡ masked w (n .address) (n .len)
+  prefix-clear =
+      let of : ℕ → Network = λ a. record { address = a; len = n .len } in
+      p .network ∙ ap of (sym (ap (cleared w (n .len)) address-is ∙ cleared-again w (n .len) (numberAt (p .address) 0 (w / 8))))

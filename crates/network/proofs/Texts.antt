@@ -35,10 +35,6 @@ network-any : (n : Network) → n .len ≤ 32 → length (networkText n) ≤ len
 unfolding networkText
 network-any n h = simp length-append (omega (arith, digits-few 1 9 (n .len) (omega arith)))
 
--- a network has 18 at most
-pub networkText-length : (n : Network) → n .address < 2 ^ 32 → n .len ≤ 32 → length (networkText n) ≤ 18
-networkText-length n h k = omega (arith, network-any n k, addressText-length (n .address) h)
-
 -- a prefix of n bytes has fewer than 10 n bytes of text: `0.0.0.0/0` is 1 byte, and `255.0.0.0/8` is 2
 pub networkText-cost : (l : List ℕ) → (prefixSize 32 l ≡ 0 → ⊥) → 1 + length (networkText (networkOf 32 l)) ≤ 10 * prefixSize 32 l
 unfolding networkOf

@@ -31,6 +31,14 @@ Relates w Supernet operand prefix = Covers w prefix operand
 Relates w Subnet operand prefix = Covers w operand prefix
 Relates w Related operand prefix = Covers w prefix operand ⊎ Covers w operand prefix
 
+-- an address with the bits past a length cleared
+unfoldable pub cleared : ℕ → ℕ → ℕ → ℕ
+cleared w len a = a / 2 ^ (w - len) * 2 ^ (w - len)
+
+-- the network of an address and a length
+abbrev pub masked : ℕ → ℕ → ℕ → Network
+masked w a len = record { address = cleared w len a; len = len }
+
 -- ---- what the code computes
 
 unfoldable pub agree : ℕ → ℕ → ℕ → ℕ → Bool
@@ -44,11 +52,3 @@ relates w Exact operand prefix = pick (eqb (operand .address) (prefix .address))
 relates w Supernet operand prefix = covers w prefix operand
 relates w Subnet operand prefix = covers w operand prefix
 relates w Related operand prefix = pick (covers w prefix operand) true (covers w operand prefix)
-
--- an address with the bits past a length cleared
-unfoldable pub cleared : ℕ → ℕ → ℕ → ℕ
-cleared w len a = a / 2 ^ (w - len) * 2 ^ (w - len)
-
--- the network of an address and a length
-abbrev pub masked : ℕ → ℕ → ℕ → Network
-masked w a len = record { address = cleared w len a; len = len }

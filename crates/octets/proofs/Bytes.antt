@@ -34,15 +34,3 @@ octets-append {x} {y} o p = record { below = λ i. go i (decLe (length x) i) }
         let e : length x + (i - length x) ≡ i = omega arith in
         rw (← e, getD-append-add) (p .below (i - length x))
     go i (no f) = rw (List·getD-append x y 0 i (lt-of-not-le f)) (o .below i)
-
--- the first of two parts of bytes is bytes
-pub octets-left : (x y : List ℕ) → Octets (x ++ y) → Octets x
-octets-left x y o = record { below = λ i. go i (decLe (length x) i) }
-  where
-    go : (i : ℕ) → Dec (length x ≤ i) → getD x i 0 < 256
-    go i (yes h) = rw (List·getD-eq-default x 0 h) (omega arith)
-    go i (no f) = rw (List·getD-append x y 0 i (lt-of-not-le f)) at (o .below i)
-
--- the second of two parts of bytes is bytes
-pub octets-right : (x y : List ℕ) → Octets (x ++ y) → Octets y
-octets-right x y o = record { below = λ i. rw getD-append-add at (o .below (length x + i)) }

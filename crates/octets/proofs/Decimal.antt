@@ -1,13 +1,13 @@
 -- Laws of decimal digits. Assumes nothing.
-use Prim.Native.Nat.{ℕ, zero, suc, _+_, _-_, _*_, _/_, _%_, _^_, _≤_, _<_}
+use Prim.Native.Nat.{ℕ, zero, suc, _+_, _*_, _/_, _%_, _^_, _≤_, _<_}
 use native.Mathlib.Nat.{pow-suc, lt-of-not-le}
 use native.Mathlib.Decide.{decLe}
 use native.Mathlib.Omega.{arith}
-use mathlib.Core.Path.{_≡_, refl, sym, ap, _∙_}
-use mathlib.Core.List.{List, [], _∷_, _++_, append-assoc}
-use lib.ListN.{length, length-append, getD, List·getD-append}
+use mathlib.Core.Path.{_≡_, refl, _∙_}
+use mathlib.Core.List.{[], _∷_, _++_, append-assoc}
+use lib.ListN.{length, length-append}
 use borrow.Author.Tests.{lt-ltb, le-ltb}
-use Rattle.octets.specs.Decimal.{digits, decimal}
+use Rattle.octets.specs.Decimal.{Decimal, digit, more, digits, decimal}
 
 pub digits-small : (f n : ℕ) → n < 10 → digits (suc f) n ≡ (n + 48) ∷ []
 unfolding digits
@@ -61,51 +61,27 @@ digits-few (suc k) (suc f) n h = go (digits-few k f (n / 10)) (decLe 10 n)
         simp (le-ltb n 10 g, length-append) (omega (arith, ih e))
     go ih (no g) = rw (digits-small (suc f) n (lt-of-not-le g)) (omega arith)
 
--- ---- digits are read back
+-- ---- digits are a decimal
 
--- the number that digits say after a number
-unfoldable pub readOn : ℕ → List ℕ → ℕ
-readOn n [] = n
-readOn n (d ∷ ds) = readOn (n * 10 + (d - 48)) ds
+small-decimal : (f n : ℕ) → n < 10 → Decimal (digits (suc f) n) n
+small-decimal f n h =
+    let e : n + 48 ≡ 48 + n = omega arith in
+    rw (digits-small f n h, e) (digit n (omega arith))
 
-read-append : (n : ℕ) (xs ys : List ℕ) → readOn n (xs ++ ys) ≡ readOn (readOn n xs) ys
-unfolding readOn
-read-append n [] ys = refl
-read-append n (d ∷ xs) ys = read-append (n * 10 + (d - 48)) xs ys
-
-read-digits : (f n : ℕ) → n < 10 ^ suc f → readOn 0 (digits (suc f) n) ≡ n
-unfolding readOn
-read-digits zero n h = rw (digits-small zero n h) (omega arith)
-read-digits (suc f) n h = go (read-digits f (n / 10)) (decLe 10 n)
+digits-decimal : (f n : ℕ) → n < 10 ^ suc f → Decimal (digits (suc f) n) n
+digits-decimal zero n h = small-decimal zero n h
+digits-decimal (suc f) n h = go (digits-decimal f (n / 10)) (decLe 10 n)
   where
-    go : (n / 10 < 10 ^ suc f → readOn 0 (digits (suc f) (n / 10)) ≡ n / 10) → Dec (10 ≤ n) → readOn 0 (digits (suc (suc f)) n) ≡ n
-    go ih (yes g) =
+    go : (n / 10 < 10 ^ suc f → Decimal (digits (suc f) (n / 10)) (n / 10)) → Dec (10 ≤ n) → Decimal (digits (suc (suc f)) n) n
+    go ih (no k) = small-decimal (suc f) n (lt-of-not-le k)
+    go ih (yes k) =
         let e : n / 10 < 10 ^ suc f = omega (arith, pow-suc 10 (suc f)) in
-        let s : digits (suc (suc f)) n ≡ digits (suc f) (n / 10) ++ ((n % 10 + 48) ∷ []) = unfold digits in simp (le-ltb _ _ g) in
-        rw (s, read-append 0 (digits (suc f) (n / 10)) ((n % 10 + 48) ∷ []), ih e) (omega arith)
-    go ih (no g) = rw (digits-small (suc f) n (lt-of-not-le g)) (omega arith)
+        let s : digits (suc (suc f)) n ≡ digits (suc f) (n / 10) ++ ((n % 10 + 48) ∷ []) = unfold digits in simp (le-ltb _ _ k) in
+        let b : n % 10 + 48 ≡ 48 + n % 10 = omega arith in
+        let v : 10 * (n / 10) + n % 10 ≡ n = omega arith in
+        let x : Decimal (digits (suc (suc f)) n) (10 * (n / 10) + n % 10) = more (n % 10) (ih e) (omega arith) (omega arith) (s ∙ rw b refl) in
+        rw v at x
 
--- the digits of a number say that number
-pub decimal-says : (n : ℕ) → n < 2 ^ 32 → readOn 0 (decimal n) ≡ n
-decimal-says n h = read-digits 9 n (omega arith)
-
--- a list whose first member isn't 0 has one
-some : (l : List ℕ) → 48 < getD l 0 0 → 0 < length l
-some [] b = absurd (omega arith)
-some (d ∷ l) b = omega arith
-
-first-digit : (f n : ℕ) → 0 < n → n < 10 ^ suc f → 48 < getD (digits (suc f) n) 0 0
-first-digit zero n k h = rw (digits-small zero n h) (omega arith)
-first-digit (suc f) n k h = go (first-digit f (n / 10)) (decLe 10 n)
-  where
-    go : (0 < n / 10 → n / 10 < 10 ^ suc f → 48 < getD (digits (suc f) (n / 10)) 0 0) → Dec (10 ≤ n) → 48 < getD (digits (suc (suc f)) n) 0 0
-    go ih (yes g) =
-        let e : n / 10 < 10 ^ suc f = omega (arith, pow-suc 10 (suc f)) in
-        let x = ih (omega arith) e in
-        let s : digits (suc (suc f)) n ≡ digits (suc f) (n / 10) ++ ((n % 10 + 48) ∷ []) = unfold digits in simp (le-ltb _ _ g) in
-        rw (s, List·getD-append (digits (suc f) (n / 10)) ((n % 10 + 48) ∷ []) 0 0 (some (digits (suc f) (n / 10)) x)) x
-    go ih (no g) = rw (digits-small (suc f) n (lt-of-not-le g)) (omega arith)
-
--- no number but 0 starts with the digit 0
-pub no-leading-zero : (n : ℕ) → 0 < n → n < 2 ^ 32 → 48 < getD (decimal n) 0 0
-no-leading-zero n k h = first-digit 9 n k (omega arith)
+-- the digits of a number of 32 bits are its decimal
+pub decimal-is : (n : ℕ) → n < 2 ^ 32 → Decimal (decimal n) n
+decimal-is n h = digits-decimal 9 n (omega arith)

@@ -7,10 +7,10 @@ use mathlib.Core.List.{List, [], _∷_, _++_}
 use lib.ListN.{length, getD, length-append}
 use lib.Seq.{getD-at}
 use Rattle.octets.specs.Numbers.{Octets, Field, numberAt, bytesOf}
+use Rattle.octets.specs.Lists.{Every, every-none, every-more, total}
 use Rattle.octets.specs.Rows.{Joined, none, more}
 use Rattle.octets.proofs.Bytes.{octets-none, octets-append}
 use Rattle.octets.proofs.Numbers.{number-front}
-use Rattle.octets.proofs.Rows.{total}
 
 -- ---- numbers
 
@@ -51,16 +51,6 @@ bytes-field w n h = record { long = bytes-length w n; octets = bytes-octets w n;
 
 -- ---- items
 
--- each member of a list is as P says
-pub data Every {A : Type 0} (P : A → Type 0) : List A → Type 0 where
-  every-none : Every P []
-  every-more : {a : A} {xs : List A} → P a → Every P xs → Every P (a ∷ xs)
-
--- each place of a list of numbers says so
-pub every-at : {P : ℕ → Type 0} (ns : List ℕ) → ((i : ℕ) → P (getD ns i 0)) → Every P ns
-every-at [] f = every-none
-every-at (n ∷ ns) f = every-more (f 0) (every-at ns (λ i. f (suc i)))
-
 module _ {A : Type 0} {R : A → List ℕ → Type 0} where
   -- items that have bytes each have bytes one after another
   pub joined-exist : {P : A → Type 0} {xs : List A} → ((a : A) → P a → (bytes : List ℕ) × R a bytes) → Every P xs → (bytes : List ℕ) × Joined R xs bytes
@@ -77,6 +67,19 @@ module _ {A : Type 0} {R : A → List ℕ → Type 0} where
   joined-length cost f none = refl
   joined-length cost f (more {a = a} {bytes = bytes} {rest = rest} x j e) =
       ap length e ∙ length-append bytes rest ∙ cc (f a bytes x, joined-length cost f j)
+
+  -- and where each costs no more than its bytes, all cost no more
+  pub joined-most : (cost : A → ℕ) → ((a : A) (bytes : List ℕ) → R a bytes → cost a ≤ length bytes)
+      → {xs : List A} {l : List ℕ} → Joined R xs l → total cost xs ≤ length l
+  unfolding total
+  joined-most cost f none = omega arith
+  joined-most cost f (more {a = a} {bytes = bytes} {rest = rest} x j e) =
+      omega (arith, ap length e, length-append bytes rest, f a bytes x, joined-most cost f j)
+
+  -- what the bytes of an item say of it holds of each of joined items
+  pub joined-every : {P : A → Type 0} → ((a : A) (bytes : List ℕ) → R a bytes → P a) → {xs : List A} {l : List ℕ} → Joined R xs l → Every P xs
+  joined-every f none = every-none
+  joined-every f (more {a = a} {bytes = bytes} x j e) = every-more (f a bytes x) (joined-every f j)
 
 -- members that cost the same each
 pub total-same : {A : Type 0} (w : ℕ) (xs : List A) → total (λ (a : A). w) xs ≡ length xs * w

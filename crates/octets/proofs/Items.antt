@@ -6,10 +6,9 @@ use mathlib.Core.List.{List, [], _∷_, _++_}
 use lib.ListN.{length, drop, length-append}
 use borrow.Author.Tests.{eq-eqb, ne-eqb}
 use Rattle.octets.specs.Numbers.{Octets}
+use Rattle.octets.specs.Lists.{Every, every-none, every-more, total}
 use Rattle.octets.specs.Rows.{Joined, none, more, itemsIn, items}
 use Rattle.octets.proofs.Bytes.{octets-none, octets-drop, octets-append}
-use Rattle.octets.proofs.Rows.{total}
-use Rattle.octets.proofs.Encode.{Every, every-none, every-more}
 
 module _ {A : Type 0} (size : List ℕ → ℕ) (item : List ℕ → A) {P : A → Type 0} (each : (l : List ℕ) → Octets l → P (item l)) where
   every-in : (f : ℕ) (l : List ℕ) → Octets l → Every P (itemsIn size item f l)

@@ -1,11 +1,11 @@
 -- Laws of numbers and their bytes: bytes are those of the number in them. Assumes nothing.
 use Prim.Native.Nat.{ℕ, zero, suc, _+_, _*_, _/_, _%_, _≤_, _<_}
 use native.Mathlib.Omega.{arith}
-use mathlib.Core.Path.{_≡_, refl, sym, ap, _∙_}
+use mathlib.Core.Path.{_≡_, refl, sym, _∙_}
 use mathlib.Core.List.{List, [], _∷_, _++_}
 use lib.ListN.{length, getD, take, drop, length-drop}
-use lib.Seq.{take-suc, take-all, take-add, drop-drop, getD-drop}
-use Rattle.octets.specs.Numbers.{Octets, Field, numberAt, bytesOf}
+use lib.Seq.{take-suc, take-add, drop-drop, getD-drop}
+use Rattle.octets.specs.Numbers.{Octets, numberAt, bytesOf}
 
 -- one byte more
 bytes-more : (w n b : ℕ) → b < 256 → bytesOf (suc w) (n * 256 + b) ≡ bytesOf w n ++ (b ∷ [])
@@ -23,11 +23,6 @@ number-bytes {l} o at (suc w) h =
     let k : w < length (drop at l) = simp length-drop (omega arith) in
     bytes-more w (numberAt l at w) (getD l (at + w) 0) (o .below (at + w))
     ∙ rw (number-bytes o at w (omega arith), take-suc (drop at l) w 0 k, getD-drop at l w 0)
-
--- the bytes of a field are those of its number
-pub field-bytes : {w n : ℕ} {bytes : List ℕ} → Field w n bytes → bytes ≡ bytesOf w n
-field-bytes {w} {n} {bytes} x =
-    sym (ap (bytesOf w) (sym (x .value)) ∙ number-bytes (x .octets) 0 w (omega (arith, x .long)) ∙ take-all w bytes (omega (arith, x .long)))
 
 -- bytes at a place, and those after them
 pub parts-join : (l : List ℕ) (at v w : ℕ) → take v (drop at l) ++ take w (drop (at + v) l) ≡ take (v + w) (drop at l)

@@ -1,14 +1,14 @@
 -- Laws of big-endian numbers, over the width. Assumes nothing.
-use Prim.Native.Nat.{ℕ, zero, suc, _+_, _-_, _*_, _/_, _%_, _^_, _≤_, _<_}
+use Prim.Native.Nat.{ℕ, zero, suc, _+_, _-_, _*_, _/_, _^_, _≤_, _<_}
 use native.Mathlib.Nat.{pow-suc, add-assoc, add-zero, add-suc, mul-suc}
 use lib.Pow.{pow-add, high}
 use native.Mathlib.Numerals.{add-one}
 use native.Mathlib.Omega.{arith}
-use mathlib.Core.Path.{_≡_, refl, sym, ap, _∙_}
-use mathlib.Core.List.{List, [], _∷_, _++_}
-use lib.ListN.{length, take, drop, getD, length-append, length-drop, length-take, List·getD-append, List·getD-eq-default}
+use mathlib.Core.Path.{_≡_, refl}
+use mathlib.Core.List.{List, _++_}
+use lib.ListN.{length, take, drop, getD, List·getD-append, List·getD-eq-default}
 use lib.Seq.{getD-drop, getD-take, getD-append-add}
-use Rattle.octets.specs.Numbers.{Octets, Free, Field, numberAt}
+use Rattle.octets.specs.Numbers.{Octets, numberAt}
 
 -- a number of bytes is below the power of its width
 pub number-lt : (s : List ℕ) (at w : ℕ) → ((i : ℕ) → getD s i 0 < 256) → numberAt s at w < 256 ^ w

@@ -5,11 +5,12 @@ use native.Mathlib.Decide.{ℕ-discrete}
 use native.Mathlib.Omega.{arith}
 use mathlib.Core.Path.{_≡_, refl, sym, ap, _∙_}
 use mathlib.Core.Bool.{true, false}
-use mathlib.Core.List.{List, [], _∷_, _++_, append-assoc}
+use mathlib.Core.List.{List, [], _∷_, _++_}
 use lib.ListN.{length, take, drop, length-drop, take-append-drop}
 use lib.Seq.{drop-at}
 use borrow.Author.Tests.{eq-eqb, ne-eqb}
 use Rattle.octets.specs.Numbers.{Octets}
+use Rattle.octets.specs.Lists.{total}
 use Rattle.octets.specs.Rows.{Joined, none, more, wholeIn, whole, itemsIn, items}
 use Rattle.octets.proofs.Bytes.{octets-drop}
 
@@ -93,11 +94,6 @@ module _ (size : List ℕ → ℕ) where
         items-fuel s (length l) (suc (length l)) l (omega arith) (omega arith)
         ∙ simp (ne-eqb _ _ n, items-fuel s (length l) (length left) left (shorter (length l) l (omega arith) n) (omega arith))
 
--- what the members of a list cost together
-unfoldable pub total : {A : Type 0} → (A → ℕ) → List A → ℕ
-total cost [] = 0
-total cost (a ∷ xs) = cost a + total cost xs
-
 module _ {A : Type 0} (size : List ℕ → ℕ) (item : List ℕ → A) (s : Sizes size) (cost : A → ℕ) (k : ℕ)
     (each : (l : List ℕ) → (size l ≡ 0 → ⊥) → cost (item l) ≤ k * size l) where
   cost-in : (f : ℕ) (l : List ℕ) → total cost (itemsIn size item f l) ≤ k * length l
@@ -173,8 +169,3 @@ module _ {A : Type 0} {R : A → List ℕ → Type 0} {size : List ℕ → ℕ} 
   -- bytes are joined items in one way only
   pub joined-one : {xs ys : List A} {l : List ℕ} → Joined R xs l → Joined R ys l → xs ≡ ys
   joined-one j k = sym (joined-items j) ∙ joined-items k
-
--- joined items after joined items are joined
-pub joined-append : {A : Type 0} {R : A → List ℕ → Type 0} {xs ys : List A} {x y : List ℕ} → Joined R xs x → Joined R ys y → Joined R (xs ++ ys) (x ++ y)
-joined-append none k = k
-joined-append {y = y} (more {bytes = bytes} {rest = rest} x j e) k = more x (joined-append j k) (ap (λ (l : List ℕ). l ++ y) e ∙ append-assoc bytes rest y)

@@ -1,6 +1,9 @@
 pub mod Choice
 pub mod Equal
 pub mod Numbers
+pub mod Header
+pub mod Parts
 pub mod Writes
 pub mod Decimal
+pub mod Lists
 pub mod Rows

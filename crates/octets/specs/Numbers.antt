@@ -13,16 +13,15 @@ unfoldable pub numberAt : List ℕ → ℕ → ℕ → ℕ
 numberAt s at zero = 0
 numberAt s at (suc w) = numberAt s at w * 256 + getD s (at + w) 0
 
--- these are w bytes, of any value
-pub record Free (w : ℕ) (bytes : List ℕ) : Type 0 where
-  pub long : length bytes ≡ w
-  pub octets : Octets bytes
-
 -- these are w bytes, and the number in them is n
 pub record Field (w n : ℕ) (bytes : List ℕ) : Type 0 where
   pub long : length bytes ≡ w
   pub octets : Octets bytes
   pub value : numberAt bytes 0 w ≡ n
+
+-- these are w bytes, of any value
+abbrev pub Free : ℕ → List ℕ → Type 0
+Free w bytes = Field w (numberAt bytes 0 w) bytes
 
 -- the w bytes of a number
 unfoldable pub bytesOf : ℕ → ℕ → List ℕ

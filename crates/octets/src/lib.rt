@@ -1,12 +1,13 @@
 // Bytes: big-endian numbers, parts, whether two are the same, clipped writes and decimal digits. Every function takes any slice and any place.
 ghost use mathlib.Core.Path.{_≡_};
 ghost use mathlib.Core.List.{[], _∷_};
-ghost use lib.ListN.{getD, take, drop};
+ghost use lib.ListN.{getD, drop};
 ghost use Prim.Native.Nat.{_<_};
 ghost use lib.Dec.{leb};
 ghost use Rattle.octets.specs.Choice.{pick};
 ghost use Rattle.octets.specs.Equal.{same};
 ghost use Rattle.octets.specs.Numbers.{numberAt, bytesOf};
+ghost use Rattle.octets.specs.Parts.{partAt};
 ghost use Rattle.octets.specs.Writes.{Written};
 ghost use Rattle.octets.specs.Decimal.{decimal};
 
@@ -42,7 +43,7 @@ pub fn number(s: &[u8], at: usize, width: usize) -> u32
 
 // What a slice holds from a place on, at most len bytes of it.
 pub fn part(s: &[u8], start: usize, len: usize) -> &[u8]
-    ensures { λ r. ⌜ now r ≡ take len (drop start (now (s .entry))) ⌝ }
+    ensures { λ r. ⌜ now r ≡ partAt (now (s .entry)) start len ⌝ }
 {
     if s.len() <= start {
         return &s[..0];

@@ -10,7 +10,7 @@ use lib.Seq.{drop-drop}
 use borrow.Author.Tests.{ne-eqb}
 use Rattle.octets.proofs.Choices.{never}
 use Rattle.token.specs.Texts.{Blank, space, tab, lineFeed, Every, none, more}
-use Rattle.operand.specs.Decimals.{Decimal, digit, more}
+use Rattle.octets.specs.Decimal.{Decimal, digit, more}
 use Rattle.token.proofs.ByteTests.{blank-sound, blank-complete}
 use Rattle.operand.proofs.FrontReads.{Run, Stops, other, first-other, run-map}
 use Rattle.operand.proofs.Decimals.{digit-is}

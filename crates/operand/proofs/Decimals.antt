@@ -13,7 +13,8 @@ use Rattle.octets.specs.Choice.{pick}
 use Rattle.octets.proofs.Choices.{each, alike}
 use Rattle.token.specs.Texts.{none, more}
 use Rattle.operand.specs.Fronts.{read}
-use Rattle.operand.specs.Decimals.{Decimal, digit, more, Below, isDigit, numberOn, number, numeral}
+use Rattle.octets.specs.Decimal.{Decimal, digit, more}
+use Rattle.operand.specs.Decimals.{Below, isDigit, numberOn, number, numeral}
 use Rattle.operand.proofs.Holding.{Holds, nothing, held, holds-onward, holds-pick}
 use Rattle.operand.proofs.FrontReads.{Got, Run, Stops, end, other, run-append, ended-sound}
 

@@ -9,8 +9,8 @@ use lib.Dec.{ltb}
 use lib.ListN.{length}
 use borrow.Author.Tests.{ltb-true}
 use Rattle.octets.specs.Choice.{pick}
+use Rattle.octets.specs.Lists.{Every, every-none, every-more}
 use Rattle.octets.proofs.Choices.{each}
-use Rattle.octets.proofs.Encode.{Every, every-none, every-more}
 use Rattle.octets.proofs.Ranges.{within}
 use Rattle.network.specs.declared.Network.{Network}
 use Rattle.network.proofs.Clearing.{cleared-le, cleared-again}

@@ -9,7 +9,8 @@ use Rattle.aspath.specs.declared.Item.{Item}
 use Rattle.aspath.specs.declared.Item.the-variants.{Any}
 use Rattle.program.specs.Readings.{byAs, eitherSide, equal, Test, typeIs, hasAttribute, pathMatches, peerIs, networkIs, timeIs}
 use Rattle.token.specs.Texts.{none}
-use Rattle.operand.specs.Decimals.{Below, digit}
+use Rattle.octets.specs.Decimal.{digit}
+use Rattle.operand.specs.Decimals.{Below}
 use Rattle.operand.specs.Codes.{by-code}
 use Rattle.operand.specs.Peers.{by-as}
 use Rattle.operand.specs.Addresses.{plain}

@@ -3,18 +3,14 @@ use Prim.Native.Nat.{ℕ, _+_, _-_, _*_, _^_, _≤_, _<_}
 use mathlib.Core.Path.{_≡_}
 use mathlib.Core.Bool.{Bool, true, false}
 use mathlib.Core.Option.{Option, none, some}
-use mathlib.Core.List.{List, [], _∷_, _++_}
+use mathlib.Core.List.{List, [], _∷_}
 use lib.Dec.{leb, ltb}
 use lib.ListN.{length, drop}
 use Rattle.octets.specs.Choice.{pick}
+use Rattle.octets.specs.Decimal.{Decimal}
 use Rattle.operand.specs.Fronts.{onward, Read, read, ended}
 use Rattle.operand.specs.declared.Number.{Number}
 use Rattle.operand.specs.declared.Number.the-variants.{Read as readTo, Missing as missing}
-
--- a digit is a decimal, and so is a decimal of 1 or more with a digit behind it
-pub data Decimal : List ℕ → ℕ → Type 0 where
-  digit : (d : ℕ) → d ≤ 9 → Decimal ((48 + d) ∷ []) d
-  more : {bs l : List ℕ} {n : ℕ} (d : ℕ) → Decimal bs n → 1 ≤ n → d ≤ 9 → l ≡ bs ++ ((48 + d) ∷ []) → Decimal l (10 * n + d)
 
 -- a decimal below a limit
 pub record Below (limit : ℕ) (bs : List ℕ) (n : ℕ) : Type 0 where

@@ -15,7 +15,7 @@ use Rattle.network.specs.Networks.{cleared}
 use Rattle.network.specs.Wire.{prefixSize, networkOf}
 use Rattle.aspath.specs.declared.Width.the-variants.{Four}
 use Rattle.aspath.specs.Wire.{segmentSize, numbersIn, segmentOf}
-use Rattle.attributes.specs.Wire.{lengthWidth, headerSize, bodySize, attributeSize, rawOf, codes}
+use Rattle.attributes.specs.Wire.{lengthWidth, attributeHeader, bodySize, attributeSize, rawOf}
 use Rattle.attributes.specs.Codes.{elem, distinct}
 use Rattle.attributes.specs.Bodies.{bodyRight, allRight, said}
 use Rattle.message.specs.declared.Decoded.the-variants.{Read}
@@ -47,14 +47,14 @@ record-octets = small-octets recordR refl
 record-decoded : decodeOf recordR ≡ Read (updateParts Four recordR)
 unfolding
     recordR decodeOf wrongSize wrongKind messageOf wrongPeer wrongFrame ones updateOf wrongSections wrongAttributes wrongBody wrongPrefix
-    numberAt wholeIn itemsIn prefixSize segmentSize lengthWidth headerSize bodySize attributeSize rawOf codes elem distinct bodyRight allRight
+    numberAt wholeIn itemsIn prefixSize segmentSize lengthWidth attributeHeader bodySize attributeSize rawOf elem distinct bodyRight allRight
 record-decoded = refl
 
 -- what they stand for, by computation
 record-message : messageAt recordR (updateParts Four recordR) ≡ messageR
 unfolding
     recordR messageR messageAt updateParts numberAt itemsIn prefixSize networkOf cleared segmentSize segmentOf numbersIn
-    lengthWidth headerSize bodySize attributeSize rawOf said
+    lengthWidth attributeHeader bodySize attributeSize rawOf said
 record-message = refl
 
 -- R's bytes are R's message

@@ -11,7 +11,8 @@ use lib.Seq.{drop-at}
 use borrow.Author.Tests.{le-leb, lt-leb}
 use Rattle.octets.specs.Choice.{pick}
 use Rattle.octets.specs.Numbers.{Octets, numberAt, bytesOf}
-use Rattle.octets.proofs.Encode.{bytes-value, Every, every-none, every-more}
+use Rattle.octets.specs.Lists.{Every, every-none, every-more}
+use Rattle.octets.proofs.Encode.{bytes-value}
 use Rattle.octets.proofs.Rows.{Sizes, items-end, items-next}
 use Rattle.aspath.specs.declared.Item.the-variants.{Number, Other, Any}
 use Rattle.program.specs.declared.Fields.{Fields}

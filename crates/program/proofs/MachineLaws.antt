@@ -7,7 +7,7 @@ use mathlib.Core.Bool.{Bool, true, false}
 use mathlib.Core.List.{List, [], _∷_, _++_, map, append-assoc, append-nil}
 use lib.ListN.{length, length-append, length-map}
 use Rattle.octets.specs.Choice.{pick}
-use Rattle.octets.proofs.Encode.{Every}
+use Rattle.octets.specs.Lists.{Every}
 use Rattle.aspath.specs.declared.Item.{Item}
 use Rattle.program.specs.Readings.{Test, typeIs, hasAttribute, pathMatches, peerIs, hasLoop, hasBogon, networkIs, timeIs, itemCount, Operator, and, or, open′, joins, Reading, test, neg, joint, weight, verdict, steps}
 use Rattle.program.specs.Records.{Record, item, flip, pass, Possible}

@@ -8,7 +8,7 @@ use mathlib.Core.Bool.{false}
 use mathlib.Core.List.{List, [], _∷_, _++_, map, append-assoc, append-nil}
 use lib.ListN.{length, getD, length-append, List·getD-append}
 use lib.Seq.{getD-append-add}
-use Rattle.octets.proofs.Encode.{Every, every-none, every-more}
+use Rattle.octets.specs.Lists.{Every, every-none, every-more}
 use Rattle.aspath.specs.declared.Item.{Item}
 use Rattle.aspath.specs.Patterns.{Pattern}
 use Rattle.program.specs.Readings.{Test, typeIs, hasAttribute, pathMatches, peerIs, hasLoop, hasBogon, networkIs, timeIs, itemCount, Operator, Reading, test, neg, joint, weight}

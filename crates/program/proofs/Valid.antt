@@ -8,8 +8,8 @@ use lib.ListN.{length, getD, drop}
 use lib.Dec.{eqb, leb}
 use borrow.Author.Tests.{leb-true, eqb-true, le-leb, eq-eqb}
 use Rattle.octets.specs.Numbers.{Octets}
+use Rattle.octets.specs.Lists.{Every}
 use Rattle.octets.proofs.Choices.{each}
-use Rattle.octets.proofs.Encode.{Every}
 use Rattle.program.specs.Records.{Record, flip, Possible, weightLimit}
 use Rattle.program.specs.Layout.{recordSize, encodeAll, isTestKind}
 use Rattle.program.specs.Machine.{recordsIn}

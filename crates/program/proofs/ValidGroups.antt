@@ -10,8 +10,8 @@ use lib.ListN.{length}
 use lib.Dec.{eqb}
 use borrow.Author.Tests.{le-ltb, eq-eqb, ne-eqb, eqb-true}
 use Rattle.octets.specs.Choice.{pick}
+use Rattle.octets.specs.Lists.{Every}
 use Rattle.octets.proofs.Choices.{never}
-use Rattle.octets.proofs.Encode.{Every}
 use Rattle.aspath.specs.declared.Item.{Item}
 use Rattle.program.specs.declared.Fields.{Fields}
 use Rattle.program.specs.Records.{Record, item, Possible}

@@ -11,8 +11,8 @@ use lib.ListN.{length, getD, drop, length-append, length-drop, List·getD-eq-def
 use lib.Dec.{eqb}
 use lib.Seq.{getD-drop, getD-append-add}
 use borrow.Author.Tests.{lt-ltb, le-ltb, eqb-false, ne-eqb, not-true}
+use Rattle.octets.specs.Lists.{Every}
 use Rattle.octets.proofs.Choices.{never}
-use Rattle.octets.proofs.Encode.{Every}
 use Rattle.program.specs.declared.Fields.{Fields}
 use Rattle.program.specs.Readings.{Operator}
 use Rattle.program.specs.Records.{Record, flip, pass, Possible}

@@ -9,10 +9,10 @@ use lib.ListN.{length, getD, take, drop, length-append, length-drop, take-append
 use lib.Seq.{getD-drop, drop-at, drop-nil, drop-drop, drop-cons}
 use borrow.Author.Tests.{le-leb, lt-leb, le-ltb}
 use Rattle.octets.specs.Numbers.{Octets}
+use Rattle.octets.specs.Lists.{Every, every-none, every-more}
 use Rattle.octets.proofs.Bytes.{octets-drop}
 use Rattle.octets.proofs.Choices.{each}
 use Rattle.octets.proofs.Rows.{items-end, items-next}
-use Rattle.octets.proofs.Encode.{Every, every-none, every-more}
 use Rattle.program.specs.Records.{Record, flip, Possible}
 use Rattle.program.specs.Layout.{recordSize, fieldsOf, encode, encodeAll, decode}
 use Rattle.program.specs.Machine.{wholeRecord, recordsIn}

@@ -4,9 +4,9 @@ use native.Mathlib.Omega.{arith}
 use mathlib.Core.Path.{ap}
 use mathlib.Core.List.{List}
 use Rattle.octets.specs.Numbers.{numberAt}
+use Rattle.octets.specs.Lists.{Every, every-none, every-more}
 use Rattle.octets.specs.Rows.{Joined, none, more}
 use Rattle.octets.proofs.Numbers.{number-lt}
-use Rattle.octets.proofs.Encode.{Every, every-none, every-more}
 use Rattle.octets.proofs.Every.{every-append}
 use Rattle.network.specs.declared.Network.{Network}
 use Rattle.network.specs.Wire.{PrefixBytes}

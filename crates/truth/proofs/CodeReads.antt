@@ -6,7 +6,7 @@ use mathlib.Core.Bool.{false}
 use mathlib.Core.List.{List, [], _∷_, map}
 use borrow.Author.Tests.{ne-eqb}
 use Rattle.octets.specs.Numbers.{Octets}
-use Rattle.octets.proofs.Encode.{Every, every-none, every-more}
+use Rattle.octets.specs.Lists.{Every, every-none, every-more}
 use Rattle.octets.proofs.Items.{items-every}
 use Rattle.attributes.specs.Attribute.{codeOf}
 use Rattle.attributes.specs.Wire.{Raw, attributeSize, rawOf, rawsOf, codes}
@@ -20,7 +20,7 @@ unfolding said codeOf
 said-code w = by-code (λ body. refl) (λ body. refl) (λ body. refl) (λ body. refl) (λ r u. rw (said-other w r u) refl)
 
 raws-coded : (w code : ℕ) (raws : List Raw) → elem code (map codeOf (map (said w) raws)) ≡ elem code (codes raws)
-unfolding elem codes
+unfolding elem
 raws-coded w code [] = refl
 raws-coded w code (r ∷ raws) = rw (said-code w r, raws-coded w code raws) refl
 
@@ -33,7 +33,7 @@ record Byte (r : Raw) : Type 0 where
   below : r .code < 256
 
 none-over : {code : ℕ} → 255 < code → {raws : List Raw} → Every Byte raws → elem code (codes raws) ≡ false
-unfolding elem codes
+unfolding elem
 none-over h every-none = refl
 none-over {code} h (every-more {a = r} b bs) =
     let n : r .code ≡ code → ⊥ = λ e. omega (arith, b .below) in

@@ -1,6 +1,6 @@
 -- The machine finds the verdict of a reading on a message, in the reading's steps. Assumes nothing.
 use mathlib.Core.Path.{_≡_, refl}
-use Rattle.octets.proofs.Encode.{Every}
+use Rattle.octets.specs.Lists.{Every}
 use Rattle.message.specs.Message.{Message}
 use Rattle.program.specs.Readings.{Test, typeIs, hasAttribute, pathMatches, peerIs, hasLoop, hasBogon, networkIs, timeIs, Reading, verdict, steps}
 use Rattle.program.specs.Records.{Possible}

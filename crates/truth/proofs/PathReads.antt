@@ -9,9 +9,9 @@ use Rattle.aspath.specs.declared.Cursor.{Cursor}
 use Rattle.aspath.specs.declared.Next.{Next}
 use Rattle.aspath.specs.declared.Next.the-variants as next
 use Rattle.aspath.specs.Members.{Member}
-use Rattle.aspath.specs.Cursors.{nextAt}
+use Rattle.aspath.specs.Cursors.{remaining, nextAt}
 use Rattle.aspath.specs.Patterns.{fits, matchesHere, matchesSome, matches}
-use Rattle.aspath.proofs.Cursors.{remaining, member-view, end-view}
+use Rattle.aspath.proofs.Cursors.{member-view, end-view}
 use Rattle.program.specs.declared.Fields.{Fields}
 use Rattle.program.specs.Layout.{isStart}
 use Rattle.truth.specs.Matching.{endsAt, matchesAt, patternOf}

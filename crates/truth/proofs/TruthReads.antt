@@ -10,7 +10,7 @@ use lib.Seq.{drop-drop}
 use lib.Dec.{eqb}
 use borrow.Author.Tests.{eq-eqb, ne-eqb}
 use Rattle.aspath.specs.Members.{Segment}
-use Rattle.aspath.specs.Wire.{bytes}
+use Rattle.aspath.specs.Wire.{widthBytes}
 use Rattle.attributes.specs.Attribute.{firstOf, askPath}
 use Rattle.attributes.specs.Wire.{rawsOf, codes}
 use Rattle.attributes.specs.Codes.{elem}
@@ -92,21 +92,21 @@ module _ (s : List ℕ) (p : Parts) (program : List ℕ) (at : ℕ) {f : Fields}
     -- an attribute
     pub attribute-true : f .kind ≡ 2 → truthAt (messageAt s p) program at ≡ elem (f .a) (codes (rawsOf (partOf s (p .attributes))))
     unfolding recordTruth recordIs isTrue messageAt
-    attribute-true k = fields-said ∙ rw (k, eq-eqb _ _ u) (some-coded (bytes (p .width)) (f .a) (partOf s (p .attributes)))
+    attribute-true k = fields-said ∙ rw (k, eq-eqb _ _ u) (some-coded (widthBytes (p .width)) (f .a) (partOf s (p .attributes)))
 
     -- the path, or no test
     pub path-true : (f .kind ≡ 1 → ⊥) → (f .kind ≡ 2 → ⊥) → (f .kind ≡ 5 → ⊥) → (f .kind ≡ 8 → ⊥) → (f .kind ≡ 9 → ⊥)
         → truthAt (messageAt s p) program at
-        ≡ onSegments (firstOf askPath (attributesOf (bytes (p .width)) (partOf s (p .attributes)))) (pathTest f (itemsIn (f .count) (after program at)))
+        ≡ onSegments (firstOf askPath (attributesOf (widthBytes (p .width)) (partOf s (p .attributes)))) (pathTest f (itemsIn (f .count) (after program at)))
     unfolding recordTruth recordIs countOf isTrue onPath messageAt pathTest
     path-true a b c d e = fields-said ∙ go (ℕ-discrete (f .kind) 3) (ℕ-discrete (f .kind) 6) (ℕ-discrete (f .kind) 7)
       where
         go : Dec (f .kind ≡ 3) → Dec (f .kind ≡ 6) → Dec (f .kind ≡ 7)
             → said (messageAt s p) (after program at) (recordIs f)
-            ≡ onSegments (firstOf askPath (attributesOf (bytes (p .width)) (partOf s (p .attributes)))) (pathTest f (itemsIn (f .count) (after program at)))
+            ≡ onSegments (firstOf askPath (attributesOf (widthBytes (p .width)) (partOf s (p .attributes)))) (pathTest f (itemsIn (f .count) (after program at)))
         go (yes k) y z = rw (k, eq-eqb _ _ u) refl
         go (no x) (yes k) z = rw (k, eq-eqb _ _ u) refl
         go (no x) (no y) (yes k) = rw (k, eq-eqb _ _ u) refl
         go (no x) (no y) (no z) =
             none-said (messageAt s p) (after program at) f a b x c y z d e
-            ∙ sym (none-tested f (firstOf askPath (attributesOf (bytes (p .width)) (partOf s (p .attributes)))) (after program at) x y z)
+            ∙ sym (none-tested f (firstOf askPath (attributesOf (widthBytes (p .width)) (partOf s (p .attributes)))) (after program at) x y z)

@@ -2,7 +2,7 @@
 ghost use mathlib.Core.Path.{_≡_};
 ghost use Prim.Native.Nat.{_+_, _*_};
 ghost use lib.ListN.{length, drop};
-ghost use Rattle.aspath.specs.Wire.{bytes, membersOf};
+ghost use Rattle.aspath.specs.Wire.{widthBytes, membersOf};
 ghost use Rattle.aspath.specs.Patterns.{matchesSome, matches};
 ghost use Rattle.aspath.specs.Cursors.{nextAt};
 ghost use Rattle.attributes.specs.Attribute.{firstOf, askPath};
@@ -170,7 +170,7 @@ fn item_at(records: &[u8], at: usize) -> Item
 
 // Whether no member stands at a cursor.
 fn at_end(path: &[u8], c: Cursor, width: Width) -> bool
-    ensures { λ r. ⌜ r ≡ endsAt (nextAt (bytes width) (now (path .entry)) c) ⌝ }
+    ensures { λ r. ⌜ r ≡ endsAt (nextAt (widthBytes width) (now (path .entry)) c) ⌝ }
 {
     let next = aspath::member_at(path, c, width);
     match next {
@@ -189,7 +189,7 @@ fn matches_here(
     width: Width,
 ) -> bool
     requires { ⌜ length (itemsIn count (now records)) ≡ count ⌝ }
-    ensures { λ r. ⌜ r ≡ matchesAt end (itemsIn count (now (records .entry))) (bytes width) (now (path .entry)) from ⌝ }
+    ensures { λ r. ⌜ r ≡ matchesAt end (itemsIn count (now (records .entry))) (widthBytes width) (now (path .entry)) from ⌝ }
 {
     let mut c = from;
     let mut i = 0;
@@ -213,7 +213,7 @@ fn matches_here(
 // Whether they do from some cursor on.
 fn matches_some(records: &[u8], count: usize, end: bool, path: &[u8], width: Width) -> bool
     requires { ⌜ length (itemsIn count (now records)) ≡ count ⌝ }
-    ensures { λ r. ⌜ r ≡ matchesSome end (itemsIn count (now (records .entry))) (membersOf (bytes width) (now (path .entry))) ⌝ }
+    ensures { λ r. ⌜ r ≡ matchesSome end (itemsIn count (now (records .entry))) (membersOf (widthBytes width) (now (path .entry))) ⌝ }
 {
     let mut c = Cursor { at: 0, left: 0 };
     loop {
@@ -241,7 +241,7 @@ fn is_start(variant: u32) -> bool
 
 // Whether a path record's pattern matches a path; its items stand in the records after it.
 fn matches(f: Fields, records: &[u8], path: &[u8], width: Width) -> bool
-    ensures { λ r. ⌜ r ≡ matches (patternOf f (itemsIn (f .count) (now (records .entry)))) (membersOf (bytes width) (now (path .entry))) ⌝ }
+    ensures { λ r. ⌜ r ≡ matches (patternOf f (itemsIn (f .count) (now (records .entry)))) (membersOf (widthBytes width) (now (path .entry))) ⌝ }
 {
     let count = items_in(records, f.count as usize);
     let end = 2 <= f.variant;
@@ -254,7 +254,7 @@ fn matches(f: Fields, records: &[u8], path: &[u8], width: Width) -> bool
 
 // Whether a test of the path is true of one.
 fn true_of_path(f: Fields, records: &[u8], path: &[u8], width: Width) -> bool
-    ensures { λ r. ⌜ r ≡ pathTest f (itemsIn (f .count) (now (records .entry))) (membersOf (bytes width) (now (path .entry))) ⌝ }
+    ensures { λ r. ⌜ r ≡ pathTest f (itemsIn (f .count) (now (records .entry))) (membersOf (widthBytes width) (now (path .entry))) ⌝ }
 {
     if f.kind == 3 {
         return matches(f, records, path, width);
@@ -270,7 +270,7 @@ fn true_of_path(f: Fields, records: &[u8], path: &[u8], width: Width) -> bool
 
 // Whether it is true of the AS_PATH of a section: without one it is false.
 fn true_of_section(f: Fields, records: &[u8], section: &[u8], width: Width) -> bool
-    ensures { λ r. ⌜ r ≡ onSegments (firstOf askPath (attributesOf (bytes width) (now (section .entry)))) (pathTest f (itemsIn (f .count) (now (records .entry)))) ⌝ }
+    ensures { λ r. ⌜ r ≡ onSegments (firstOf askPath (attributesOf (widthBytes width) (now (section .entry)))) (pathTest f (itemsIn (f .count) (now (records .entry)))) ⌝ }
 {
     let found = attributes::find(section, 2);
     match found {

@@ -7,11 +7,11 @@ use mathlib.Core.Path.{_≡_, refl, ap, _∙_}
 use mathlib.Core.List.{List, _++_}
 use lib.ListN.{length, length-append}
 use lib.Seq.{drop-append-add}
+use Rattle.octets.specs.Header.{headerSize}
 use Rattle.octets.specs.Numbers.{numberAt}
 use Rattle.octets.proofs.Numbers.{number-after}
 use Rattle.walk.specs.declared.Step.{Step}
 use Rattle.walk.specs.declared.Step.the-variants.{Record, Done, Cut}
-use Rattle.walk.specs.Split.{headerSize}
 use Rattle.walk.specs.Steps.{stepAt, recordOf}
 use Rattle.walk.proofs.Steps.{step-past, step-short, step-overrun, step-whole}
 

@@ -1,4 +1,4 @@
--- Laws of splits into records: any bytes split, in one way only, and records may be set before bytes that are split. Assumes nothing.
+-- Laws of splits into records: any bytes split, in one way only, and a record may be set before bytes that are split. Assumes nothing.
 use Prim.Native.Nat.{ℕ, zero, suc, _+_, _≤_, _<_}
 use native.Mathlib.Nat.{lt-of-not-le}
 use native.Mathlib.Decide.{decLe}
@@ -7,10 +7,10 @@ use mathlib.Core.Path.{_≡_, refl, sym, ap, _∙_}
 use mathlib.Core.List.{List, [], _∷_, _++_, append-assoc}
 use lib.ListN.{length, take, drop, length-append, length-drop, take-append-drop}
 use lib.Seq.{length-take-le, take-at, drop-at}
+use Rattle.octets.specs.Header.{headerSize, lengthField}
 use Rattle.octets.specs.Rows.{Joined, none, more}
 use Rattle.octets.proofs.Numbers.{number-front, number-take}
-use Rattle.octets.proofs.Rows.{joined-append}
-use Rattle.walk.specs.Split.{headerSize, lengthField, IsRecord, Rest, nothing, short, overrun, Splits}
+use Rattle.walk.specs.Split.{IsRecord, Rest, nothing, short, overrun, Splits}
 
 -- ---- a record at the front
 
@@ -33,7 +33,7 @@ record-one {r} {q} {x} {y} v w after behind e =
     let g : drop (length y) (x ++ after) ≡ behind = rw e (drop-at y behind (length y) refl) in
     (sym (v .same) ∙ sym (take-at x after (length y) n) ∙ f ∙ w .same, sym (drop-at x after (length y) n) ∙ g)
 
--- ---- records before bytes that are split
+-- ---- a record before bytes that are split
 
 -- one record
 pub splits-append : {r bytes rest : List ℕ} {rs : List (List ℕ)} → Splits bytes rs rest → IsRecord r r → Splits (r ++ bytes) (r ∷ rs) rest
@@ -41,16 +41,6 @@ splits-append {r} s w = record {
   front = r ++ s .front;
   split = rw append-assoc (ap (λ (l : List ℕ). r ++ l) (s .split));
   joined = more w (s .joined) refl;
-  closing = s .closing;
-}
-
--- joined records
-pub splits-front : {front bytes rest : List ℕ} {xs rs : List (List ℕ)}
-    → Joined IsRecord xs front → Splits bytes rs rest → Splits (front ++ bytes) (xs ++ rs) rest
-splits-front {front} j s = record {
-  front = front ++ s .front;
-  split = rw append-assoc (ap (λ (l : List ℕ). front ++ l) (s .split));
-  joined = joined-append j (s .joined);
   closing = s .closing;
 }
 

@@ -8,11 +8,12 @@ use mathlib.Core.List.{List, [], _∷_, _++_}
 use lib.ListN.{length, length-append}
 use lib.Seq.{take-append-seam, drop-append-seam}
 use borrow.Author.Tests.{le-leb, lt-leb, le-ltb, lt-ltb}
+use Rattle.octets.specs.Header.{headerSize}
 use Rattle.octets.specs.Numbers.{numberAt}
 use Rattle.octets.proofs.Numbers.{number-front, number-after}
 use Rattle.walk.specs.declared.Step.{Step}
 use Rattle.walk.specs.declared.Step.the-variants.{Record, Done, Cut}
-use Rattle.walk.specs.Split.{headerSize, IsRecord, Rest, nothing, short, overrun}
+use Rattle.walk.specs.Split.{IsRecord, Rest, nothing, short, overrun}
 use Rattle.walk.specs.Steps.{stepAt, recordOf, placeAfter, placeOf, stepOf, closingOf}
 
 -- ---- the cases of a step

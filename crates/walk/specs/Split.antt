@@ -3,18 +3,10 @@ use Prim.Native.Nat.{ℕ, zero, suc, _+_, _≤_, _<_}
 use mathlib.Core.Path.{_≡_}
 use mathlib.Core.List.{List, [], _∷_, _++_}
 use lib.ListN.{length}
-use Rattle.octets.specs.Numbers.{numberAt}
+use Rattle.octets.specs.Header.{headerSize, lengthField}
 use Rattle.octets.specs.Rows.{Joined}
 
--- the bytes of a header
-abbrev pub headerSize : ℕ
-headerSize = 12
-
--- a header's length field: the bytes that follow the header
-abbrev pub lengthField : List ℕ → ℕ
-lengthField r = numberAt r 8 4
-
--- these bytes are a record, its size 12 plus its length field
+-- these bytes are a record, its size that of its header plus its length field
 pub record IsRecord (r bytes : List ℕ) : Type 0 where
   pub same : bytes ≡ r
   pub headed : headerSize ≤ length r

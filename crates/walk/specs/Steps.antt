@@ -4,18 +4,17 @@ use mathlib.Core.List.{List, [], _∷_}
 use lib.ListN.{length, take, drop}
 use lib.Dec.{leb, ltb}
 use Rattle.octets.specs.Choice.{pick}
-use Rattle.octets.specs.Numbers.{numberAt}
+use Rattle.octets.specs.Header.{headerSize, lengthAt}
 use Rattle.walk.specs.declared.Step.{Step}
 use Rattle.walk.specs.declared.Step.the-variants.{Record, Done, Cut}
-use Rattle.walk.specs.Split.{headerSize}
 
 -- what stands at a place: nothing more; a cut record with the bytes left; or a record with its place and length
 unfoldable pub stepAt : List ℕ → ℕ → Step
 stepAt s at =
     pick (leb (length s) at) Done
     (pick (ltb (length s - at) headerSize) (Cut (length s - at))
-    (pick (ltb (length s - at - headerSize) (numberAt s (at + 8) 4)) (Cut (length s - at))
-    (Record at (headerSize + numberAt s (at + 8) 4))))
+    (pick (ltb (length s - at - headerSize) (lengthAt s at)) (Cut (length s - at))
+    (Record at (headerSize + lengthAt s at))))
 
 -- the record that a step hands out
 abbrev pub recordOf : List ℕ → Step → List ℕ

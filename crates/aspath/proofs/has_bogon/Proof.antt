@@ -9,7 +9,8 @@ use Rattle.aspath.specs.declared.Cursor.{Cursor}
 use Rattle.aspath.specs.Members.{Member}
 use Rattle.aspath.specs.Wire.{membersOf}
 use Rattle.aspath.specs.Bogons.{someBogon}
-use Rattle.aspath.proofs.Cursors.{remaining, member-view, end-view, whole-path}
+use Rattle.aspath.specs.Cursors.{remaining}
+use Rattle.aspath.proofs.Cursors.{member-view, end-view, whole-path}
 use Rattle.aspath.proofs.Ranges.{bogon-none, bogon-here, bogon-later}
 use Rattle.aspath.proofs.has_bogon.Statement.{statement}
 use Rattle.aspath.proofs.has_bogon.Tie as tie

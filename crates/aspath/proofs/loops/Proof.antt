@@ -10,7 +10,8 @@ use Rattle.aspath.specs.declared.Cursor.{Cursor}
 use Rattle.aspath.specs.Members.{Member}
 use Rattle.aspath.specs.Wire.{membersOf}
 use Rattle.aspath.specs.Loops.{returnsIn, hasLoop}
-use Rattle.aspath.proofs.Cursors.{remaining, member-view, end-view, whole-path}
+use Rattle.aspath.specs.Cursors.{remaining}
+use Rattle.aspath.proofs.Cursors.{member-view, end-view, whole-path}
 use Rattle.aspath.proofs.Returns.{returns-end, returns-other, returns-found, returns-same, loop-none, loop-here, loop-later}
 use Rattle.aspath.proofs.loops.Statement.{statement}
 use Rattle.aspath.proofs.loops.Tie as tie

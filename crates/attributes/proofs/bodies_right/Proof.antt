@@ -6,7 +6,7 @@ use lib.ListN.{length, getD, drop, length-drop}
 use borrow.Author.Needs.{needs}
 use borrow.Author.Tests.{not-true, not-false}
 use denote.Ref.{now}
-use Rattle.aspath.specs.Wire.{bytes}
+use Rattle.aspath.specs.Wire.{widthBytes}
 use Rattle.octets.proofs.Numbers.{number-one}
 use Rattle.attributes.specs.Wire.{rawsOf}
 use Rattle.attributes.specs.Bodies.{allRight}
@@ -17,7 +17,7 @@ use Rattle.attributes.proofs.bodies_right.Tie as tie
 
 abbrev Inv-loop : tie.InvT-loop
 Inv-loop s width at₀ at =
-    (at ≤ length s) × (allRight (bytes width) (rawsOf (drop at s)) ≡ allRight (bytes width) (rawsOf s))
+    (at ≤ length s) × (allRight (widthBytes width) (rawsOf (drop at s)) ≡ allRight (widthBytes width) (rawsOf s))
 
 abbrev μ-loop : tie.MeasureT-loop
 μ-loop s width at₀ at = length s - at
@@ -41,7 +41,7 @@ returns : tie.Need-returns Inv-loop μ-loop
 returns c =
     let a = c .before .before .before .before .before .args in
     let l = c .before .before .before .loop in
-    sym (right-end (drop (l .at) (now (a .s))) (bytes (a .width)) (sym (c .before .attribute-size .ensures) ∙ c .if1 .taken)) ∙ l .inv .1
+    sym (right-end (drop (l .at) (now (a .s))) (widthBytes (a .width)) (sym (c .before .attribute-size .ensures) ∙ c .if1 .taken)) ∙ l .inv .1
 
 add-number : tie.Need-add-number Inv-loop μ-loop
 add-number c = search needs
@@ -102,7 +102,7 @@ returns-3 c =
     let a = c .before .before .before .args in
     let l = c .before .loop in
     let r = drop (l .at) (now (a .s)) in
-    sym (right-end r (bytes (a .width)) (omega (arith, attribute-sizes .fits r, length-drop (l .at) (now (a .s))))) ∙ l .inv .1
+    sym (right-end r (widthBytes (a .width)) (omega (arith, attribute-sizes .fits r, length-drop (l .at) (now (a .s))))) ∙ l .inv .1
 
 pub bodies-right-spec : {M : Type 1} → statement M
 bodies-right-spec =

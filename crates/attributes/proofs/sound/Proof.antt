@@ -6,11 +6,8 @@ use mathlib.Core.Bool.{false}
 use lib.ListN.{length, getD, replicate, drop, length-drop, length-set}
 use borrow.Author.Needs.{needs}
 use denote.Ref.{now}
-use Rattle.octets.specs.Choice.{pick}
-use Rattle.octets.specs.Rows.{whole}
 use Rattle.octets.proofs.Numbers.{number-one}
-use Rattle.attributes.specs.Wire.{attributeSize, rawsOf, codes}
-use Rattle.attributes.specs.Codes.{distinct}
+use Rattle.attributes.specs.Codes.{isSound}
 use Rattle.attributes.proofs.Sizes.{Step, step}
 use Rattle.attributes.proofs.Marks.{marks, bit-clear, none-marked, marking-adds}
 use Rattle.attributes.proofs.Walks.{soundWith, sound-start, sound-end, sound-bad, sound-marked, sound-next}
@@ -19,7 +16,7 @@ use Rattle.attributes.proofs.sound.Tie as tie
 
 abbrev Inv-loop : tie.InvT-loop
 Inv-loop s seen₀ at₀ seen at =
-    (at ≤ length s) × (length seen ≡ 4) × (soundWith (marks seen) (drop at s) ≡ pick (whole attributeSize s) (distinct (codes (rawsOf s))) false)
+    (at ≤ length s) × (length seen ≡ 4) × (soundWith (marks seen) (drop at s) ≡ isSound s)
 
 abbrev μ-loop : tie.MeasureT-loop
 μ-loop s seen₀ at₀ seen at = length s - at

@@ -3,7 +3,7 @@ use mathlib.Core.Path.{sym, _∙_}
 use mathlib.Core.List.{[], _∷_}
 use denote.Ref.{now}
 use Rattle.octets.proofs.Writes.{both}
-use Rattle.aspath.specs.Wire.{bytes}
+use Rattle.aspath.specs.Wire.{widthBytes}
 use Rattle.attributes.proofs.Lookup.{asks-atomic}
 use Rattle.line.specs.Line.{atomicText}
 use Rattle.line.proofs.Fields.{field-absent, field-found}
@@ -28,7 +28,7 @@ same-length c = search needs
 
 returns : tie.Need-returns
 returns c = let a = c .before .before .before .before .before .before .before .before .before .args in
-    rw (field-absent (asks-atomic (bytes (a .width))) atomicText (now (a .s)) (sym (c .before .before .find .ensures) ∙ c .enum-told2 .given .1)) (c .before .before .before .before .before .put .ensures)
+    rw (field-absent (asks-atomic (widthBytes (a .width))) atomicText (now (a .s)) (sym (c .before .before .find .ensures) ∙ c .enum-told2 .given .1)) (c .before .before .before .before .before .put .ensures)
 
 put-requires-2 : tie.Need-put-requires-2
 put-requires-2 c κs = search needs
@@ -42,7 +42,7 @@ same-length-2 c = search needs
 returns-2 : tie.Need-returns-2
 returns-2 c = let a = c .before .before .before .before .before .before .before .before .before .before .before .before .before .before .before .before .before .args in
     let f = c .before .before .before .before .before .before .before .before .enum-told .given in
-    rw (field-found (asks-atomic (bytes (a .width))) atomicText (now (a .s)) (f .0 .0) (f .0 .1 .0) (sym (c .before .before .before .before .before .before .before .before .before .before .find .ensures) ∙ f .1))
+    rw (field-found (asks-atomic (widthBytes (a .width))) atomicText (now (a .s)) (f .0 .0) (f .0 .1 .0) (sym (c .before .before .before .before .before .before .before .before .before .before .find .ensures) ∙ f .1))
     (both (124 ∷ []) _ (c .before .before .before .before .before .before .before .before .before .before .before .before .before .put .ensures) (both (65 ∷ []) (84 ∷ []) (c .before .before .before .before .before .before .put2 .ensures) (c .before .before .put3 .ensures)))
 
 pub put-atomic-field-spec : {M : Type 1} → statement M

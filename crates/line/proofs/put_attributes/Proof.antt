@@ -2,7 +2,7 @@
 use mathlib.Core.List.{[], _∷_, _++_}
 use denote.Ref.{now}
 use Rattle.octets.proofs.Writes.{both}
-use Rattle.aspath.specs.Wire.{bytes}
+use Rattle.aspath.specs.Wire.{widthBytes}
 use Rattle.attributes.specs.Bodies.{attributesOf}
 use Rattle.line.specs.Line.{pathField, nextHopField, originField, atomicField}
 use Rattle.line.specs.Text.{following}
@@ -34,7 +34,7 @@ same-length c = search needs
 returns : tie.Need-returns
 unfolding following
 returns c = let a = c .before .before .before .before .before .before .before .before .before .before .before .before .before .before .before .before .before .before .before .before .before .before .before .before .before .before .args in
-    let attributes = attributesOf (bytes (a .width)) (now (a .s)) in
+    let attributes = attributesOf (widthBytes (a .width)) (now (a .s)) in
     both ((124 ∷ []) ++ pathField attributes) _ (c .before .before .before .before .before .before .before .before .before .before .before .before .before .before .before .before .before .before .before .before .before .before .put-path-field .ensures)
     (both ((124 ∷ []) ++ nextHopField attributes) _ (c .before .before .before .before .before .before .before .before .before .before .before .before .before .before .before .before .before .before .put-next-hop-field .ensures)
     (both ((124 ∷ []) ++ originField attributes) _ (c .before .before .before .before .before .before .before .before .before .before .before .before .before .before .put-origin-field .ensures)

@@ -9,7 +9,7 @@ use lib.ListN.{length, drop}
 use lib.Seq.{drop-drop}
 use Rattle.octets.specs.Decimal.{decimal}
 use Rattle.octets.proofs.Writes.{Midst}
-use Rattle.aspath.specs.Wire.{bytes, numbersIn}
+use Rattle.aspath.specs.Wire.{widthBytes, numbersIn}
 use Rattle.line.specs.Text.{following}
 use Rattle.line.proofs.Numbers.{number-here, numbers-next, numbers-end, numbers-room}
 use Rattle.line.proofs.Texts.{none-written, begins, next-written, all-written}
@@ -38,7 +38,7 @@ put-decimal-requires c κs = search needs
 
 add-p : tie.Need-add-p Inv-loop μ-loop
 add-p c = let a = c .before .before .before .before .before .before .before .before .before .args in
-    omega (arith, c .before .before .before .before .before .width-bytes .ensures .0, numbers-room (bytes (a .width)) (a .count) (omega arith))
+    omega (arith, c .before .before .before .before .before .width-bytes .ensures .0, numbers-room (widthBytes (a .width)) (a .count) (omega arith))
 
 sub-left : tie.Need-sub-left Inv-loop μ-loop
 sub-left c = search needs
@@ -46,7 +46,7 @@ sub-left c = search needs
 loop-holds : tie.Need-loop-holds Inv-loop μ-loop
 loop-holds c = let a = c .before .before .before .before .before .before .before .before .before .args in
     let w = c .before .before .before .before .before .width-bytes .ensures .0 in
-    (rw w (omega (arith, numbers-room (bytes (a .width)) (a .count) (omega arith))), begins (c .before .before .put-decimal .ensures))
+    (rw w (omega (arith, numbers-room (widthBytes (a .width)) (a .count) (omega arith))), begins (c .before .before .put-decimal .ensures))
 
 put-requires : tie.Need-put-requires Inv-loop μ-loop
 put-requires c κs = search needs

@@ -8,7 +8,7 @@ use denote.Ref.{now}
 use lib.ListN.{length, drop}
 use lib.Seq.{drop-drop}
 use Rattle.octets.proofs.Writes.{Midst}
-use Rattle.aspath.specs.Wire.{bytes, segmentSize, segmentOf, segmentsOf}
+use Rattle.aspath.specs.Wire.{widthBytes, segmentSize, segmentOf, segmentsOf}
 use Rattle.aspath.proofs.Segments.{segment-sizes}
 use Rattle.line.specs.Text.{following, segmentText}
 use Rattle.line.proofs.Texts.{item-fits, texts-next, texts-end, none-written, begins, next-written, all-written}
@@ -18,7 +18,7 @@ use Rattle.line.proofs.put_path.Tie as tie
 abbrev Inv-loop : tie.InvT-loop
 Inv-loop out₀ at s width first place₀ p₀ out place p =
     (p ≤ length s)
-    × Midst out₀ place₀ (following 32 (map segmentText (segmentsOf (bytes width) (drop p₀ s)))) out place (following 32 (map segmentText (segmentsOf (bytes width) (drop p s))))
+    × Midst out₀ place₀ (following 32 (map segmentText (segmentsOf (widthBytes width) (drop p₀ s)))) out place (following 32 (map segmentText (segmentsOf (widthBytes width) (drop p s))))
 
 abbrev μ-loop : tie.MeasureT-loop
 μ-loop out₀ at s width first place₀ p₀ out place p = length s - p
@@ -28,7 +28,7 @@ segment-size-requires c κs = search needs
 
 returns : tie.Need-returns Inv-loop μ-loop
 returns c = let a = c .before .before .before .before .args in
-    let w = bytes (a .width) in
+    let w = widthBytes (a .width) in
     none-written 32 (texts-end (segmentSize w) (segmentOf w) segmentText (now (a .s)) (sym (c .before .segment-size .ensures) ∙ c .if1 .taken)) (omega arith) (omega arith)
 
 put-segment-requires : tie.Need-put-segment-requires Inv-loop μ-loop
@@ -36,7 +36,7 @@ put-segment-requires c κs = λ z. c .before .if1 .left (c .before .before .segm
 
 loop-holds : tie.Need-loop-holds Inv-loop μ-loop
 loop-holds c = let a = c .before .before .before .before .before .before .before .before .args in
-    (omega (arith, c .before .before .before .before .before .segment-size .ensures, segment-sizes (bytes (a .width)) .fits (now (a .s))), begins (c .before .before .put-segment .ensures))
+    (omega (arith, c .before .before .before .before .before .segment-size .ensures, segment-sizes (widthBytes (a .width)) .fits (now (a .s))), begins (c .before .before .put-segment .ensures))
 
 segment-size-requires-2 : tie.Need-segment-size-requires-2 Inv-loop μ-loop
 segment-size-requires-2 c κs = search needs
@@ -48,13 +48,13 @@ put-segment-requires-2 : tie.Need-put-segment-requires-2 Inv-loop μ-loop
 put-segment-requires-2 c κs = λ z. c .before .before .before .before .before .if2 .left (c .before .before .before .before .before .before .segment-size2 .ensures ∙ z)
 
 add-p : tie.Need-add-p Inv-loop μ-loop
-add-p c = omega (arith, item-fits (segment-sizes (bytes (c .before .before .before .before .before .before .before .before .before .before .before .before .before .before .before .before .before .before .before .args .width))) (now (c .before .before .before .before .before .before .before .before .before .before .before .before .before .before .before .before .before .before .before .args .s)) (c .before .before .before .before .before .before .before .before .before .before .loop .inv .0) (c .before .before .before .before .before .before .before .before .before .segment-size2 .ensures))
+add-p c = omega (arith, item-fits (segment-sizes (widthBytes (c .before .before .before .before .before .before .before .before .before .before .before .before .before .before .before .before .before .before .before .args .width))) (now (c .before .before .before .before .before .before .before .before .before .before .before .before .before .before .before .before .before .before .before .args .s)) (c .before .before .before .before .before .before .before .before .before .before .loop .inv .0) (c .before .before .before .before .before .before .before .before .before .segment-size2 .ensures))
 
 loop-less : tie.Need-loop-less Inv-loop μ-loop
-loop-less c = omega (arith, item-fits (segment-sizes (bytes (c .before .before .before .before .before .before .before .before .before .before .before .before .before .before .before .before .before .before .before .args .width))) (now (c .before .before .before .before .before .before .before .before .before .before .before .before .before .before .before .before .before .before .before .args .s)) (c .before .before .before .before .before .before .before .before .before .before .loop .inv .0) (c .before .before .before .before .before .before .before .before .before .segment-size2 .ensures))
+loop-less c = omega (arith, item-fits (segment-sizes (widthBytes (c .before .before .before .before .before .before .before .before .before .before .before .before .before .before .before .before .before .before .before .args .width))) (now (c .before .before .before .before .before .before .before .before .before .before .before .before .before .before .before .before .before .before .before .args .s)) (c .before .before .before .before .before .before .before .before .before .before .loop .inv .0) (c .before .before .before .before .before .before .before .before .before .segment-size2 .ensures))
 
 loop-again : tie.Need-loop-again Inv-loop μ-loop
-loop-again c = let w = bytes (c .before .before .before .before .before .before .before .before .before .before .before .before .before .before .before .before .before .before .before .args .width) in
+loop-again c = let w = widthBytes (c .before .before .before .before .before .before .before .before .before .before .before .before .before .before .before .before .before .before .before .args .width) in
     let s = now (c .before .before .before .before .before .before .before .before .before .before .before .before .before .before .before .before .before .before .before .args .s) in
     let p = c .before .before .before .before .before .before .before .before .before .before .loop .p in
     let e = c .before .before .before .before .before .before .before .before .before .segment-size2 .ensures in (
@@ -69,7 +69,7 @@ same-length c = c .before .before .loop .inv .1 .long ∙ c .before .before .bef
 
 returns-2 : tie.Need-returns-2 Inv-loop μ-loop
 returns-2 c = let a = c .before .before .before .before .before .before .before .before .before .before .before .args in
-    let w = bytes (a .width) in
+    let w = widthBytes (a .width) in
     let s = now (a .s) in
     let p = c .before .before .loop .p in
     let e = c .before .before .before .before .before .before .before .before .segment-size .ensures in

@@ -5,7 +5,7 @@ use mathlib.Core.Path.{sym, _∙_}
 use mathlib.Core.List.{[], _∷_}
 use denote.Ref.{now}
 use Rattle.octets.proofs.Writes.{both}
-use Rattle.aspath.specs.Wire.{bytes}
+use Rattle.aspath.specs.Wire.{widthBytes}
 use Rattle.aspath.proofs.Segments.{Stands, size-stands}
 use Rattle.line.specs.Text.{separated}
 use Rattle.line.proofs.Numbers.{octet-here, numberTexts, set-text, sequence-text}
@@ -14,7 +14,7 @@ use Rattle.line.proofs.put_segment.Statement.{statement}
 use Rattle.line.proofs.put_segment.Tie as tie
 
 -- a whole segment stands there
-stands : (c : tie.Start) → Stands (bytes (c .args .width)) (now (c .args .s)) (c .args .p)
+stands : (c : tie.Start) → Stands (widthBytes (c .args .width)) (now (c .args .s)) (c .args .p)
 stands c = size-stands _ _ _ (c .pre)
 
 add-number : tie.Need-add-number
@@ -47,7 +47,7 @@ same-length c = search needs
 
 returns : tie.Need-returns
 returns c = let a = c .before .before .before .before .before .before .before .before .before .before .before .before .before .before .before .before .before .args in
-    let w = bytes (a .width) in
+    let w = widthBytes (a .width) in
     let s = now (a .s) in
     rw (set-text w s (a .p) (sym (octet-here s (a .p) (c .before .before .before .before .before .before .before .before .before .before .before .before .before .number2 .ensures)) ∙ c .before .before .before .before .before .before .before .before .before .before .before .before .if1 .taken))
     (both (123 ∷ []) _ (c .before .before .before .before .before .before .before .before .before .before .put .ensures)
@@ -67,7 +67,7 @@ same-length-2 c = search needs
 returns-2 : tie.Need-returns-2
 returns-2 c = let a = c .before .before .before .before .before .before .before .before .before .args in
     let s = now (a .s) in
-    rw (sequence-text (bytes (a .width)) s (a .p) (λ e. c .before .before .before .before .if1 .left (octet-here s (a .p) (c .before .before .before .before .before .number2 .ensures) ∙ e)))
+    rw (sequence-text (widthBytes (a .width)) s (a .p) (λ e. c .before .before .before .before .if1 .left (octet-here s (a .p) (c .before .before .before .before .before .number2 .ensures) ∙ e)))
     (rw (octet-here s (a .p + 1) (c .before .before .before .before .before .before .number .ensures)) at (c .before .before .put-numbers2 .ensures))
 
 pub put-segment-spec : {M : Type 1} → statement M

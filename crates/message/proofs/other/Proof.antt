@@ -2,7 +2,7 @@
 use borrow.Author.Needs.{needs}
 use denote.Ref.{now}
 use Rattle.message.specs.Decode.{otherParts}
-use Rattle.message.proofs.Fields.{peer-field}
+use Rattle.message.proofs.Fields.{peer-field, address-place}
 use Rattle.message.proofs.other.Statement.{statement}
 use Rattle.message.proofs.other.Tie as tie
 
@@ -28,11 +28,12 @@ returns : tie.Need-returns
 unfolding otherParts
 returns c = let a = c .before .before .before .before .before .before .args in
     let w = c .before .before .width-bytes in
+    let f = c .before .before .before .before .frame-start in
     rw (
       c .before .before .before .number .ensures,
       peer-field (a .width) (now (a .s)) (w .result) (c .before .number2 .result) (w .ensures .0) (w .ensures .1) (c .before .number2 .ensures),
       c .number3 .ensures,
-      c .before .before .before .before .frame-start .ensures .0,
+      address-place (a .width) (f .result) (f .ensures .0),
       c .before .before .before .before .before .before .pre,
     )
 

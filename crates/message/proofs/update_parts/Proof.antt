@@ -2,7 +2,7 @@
 use borrow.Author.Needs.{needs}
 use denote.Ref.{now}
 use Rattle.message.specs.Decode.{updateParts}
-use Rattle.message.proofs.Fields.{peer-field, announced-left}
+use Rattle.message.proofs.Fields.{peer-field, address-place, announced-left}
 use Rattle.message.proofs.update_parts.Statement.{statement}
 use Rattle.message.proofs.update_parts.Tie as tie
 
@@ -53,11 +53,13 @@ unfolding updateParts
 returns c = let a = c .before .before .before .before .before .before .args in
     let p = c .before .before .before .before .before .before .pre in
     let w = c .before .before .width-bytes in
+    let f = c .before .before .before .before .frame-start in
     rw (
       c .before .before .before .number .ensures,
       peer-field (a .width) (now (a .s)) (w .result) (c .before .number2 .result) (w .ensures .0) (w .ensures .1) (c .before .number2 .ensures),
       c .number3 .ensures,
-      c .before .before .before .before .frame-start .ensures .0,
+      address-place (a .width) (f .result) (f .ensures .0),
+      f .ensures .0,
       p .0,
       p .1,
       announced-left (a .width) (now (a .s)),

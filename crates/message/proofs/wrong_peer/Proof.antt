@@ -2,6 +2,7 @@
 use borrow.Author.Needs.{needs}
 use borrow.Author.Tests.{lt-ltb, le-ltb}
 use Rattle.message.specs.Decode.{wrongPeer}
+use Rattle.message.proofs.Fields.{family-place}
 use Rattle.message.proofs.wrong_peer.Statement.{statement}
 use Rattle.message.proofs.wrong_peer.Tie as tie
 
@@ -20,7 +21,8 @@ number-requires c κs = search needs
 
 returns-2 : tie.Need-returns-2
 unfolding wrongPeer
-returns-2 c = simp (← c .before .before .frame-start .ensures .0, le-ltb _ _ (c .before .if1 .left), c .number .ensures)
+returns-2 c = let f = c .before .before .frame-start in
+    simp (← f .ensures .0, le-ltb _ _ (c .before .if1 .left), c .number .ensures, family-place (c .before .before .before .before .args .width) (f .result) (f .ensures .0))
 
 pub wrong-peer-spec : {M : Type 1} → statement M
 wrong-peer-spec =

@@ -1,10 +1,10 @@
 -- `octets::number` meets its contract. The loop's invariant: n is the number in the first i bytes. Assumes nothing.
-use Prim.Native.Nat.{_+_, _≤_, _<_, _-_, _^_}
+use Prim.Native.Nat.{_≤_, _<_, _-_, _^_}
 use native.Mathlib.Omega.{arith}
 use borrow.Author.Needs.{needs}
 use borrow.Author.Tests.{le-leb, lt-leb}
-use mathlib.Core.Path.{_≡_, refl, sym, _∙_}
-use lib.ListN.{length, getD}
+use mathlib.Core.Path.{_≡_, sym}
+use lib.ListN.{length}
 use denote.Ref.{now}
 use Rattle.octets.specs.Numbers.{numberAt}
 use Rattle.octets.proofs.Numbers.{number-past, number-next, number-none, room, next-lt}

@@ -5,7 +5,7 @@ use mathlib.Core.Path.{_≡_, sym}
 use denote.Ref.{now}
 use lib.ListN.{length, drop, drop-of-length-le, length-drop}
 use lib.Seq.{take-all}
-use Prim.Native.Nat.{_-_, _≤_}
+use Prim.Native.Nat.{_-_}
 use Rattle.octets.proofs.rest.Statement.{statement}
 use Rattle.octets.proofs.rest.Tie as tie
 

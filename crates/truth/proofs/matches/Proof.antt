@@ -2,7 +2,7 @@
 use mathlib.Core.Path.{sym, _∙_}
 use denote.Ref.{now}
 use borrow.Author.Needs.{needs}
-use Rattle.aspath.specs.Wire.{bytes, membersOf}
+use Rattle.aspath.specs.Wire.{widthBytes, membersOf}
 use Rattle.aspath.proofs.Cursors.{whole-path}
 use Rattle.truth.proofs.ItemReads.{counted-same, counted-all}
 use Rattle.truth.proofs.PathReads.{at-members, pinned, free}
@@ -24,7 +24,7 @@ matches-here-requires c κs = let a = c .before .before .before .before .before 
 
 returns : tie.Need-returns
 returns c = let a = c .before .before .before .before .before .before .before .before .args in
-    let w = bytes (a .width) in
+    let w = widthBytes (a .width) in
     let path = now (a .path) in
     rw (pinned (a .f) _ (membersOf w path) (sym (c .before .before .is-start .ensures) ∙ c .before .if1 .taken), ← counted-same (a .f .count) (now (a .records)) (c .before .before .before .before .items-in .ensures), ← whole-path w path)
     (c .matches-here .ensures ∙ at-members _ w path _ _)
@@ -35,7 +35,7 @@ matches-some-requires c κs = let a = c .before .before .before .before .before 
 
 returns-2 : tie.Need-returns-2
 returns-2 c = let a = c .before .before .before .before .before .before .before .before .args in
-    rw (free (a .f) _ (membersOf (bytes (a .width)) (now (a .path))) (sym (c .before .before .is-start .ensures) ∙ c .before .if1 .left), ← counted-same (a .f .count) (now (a .records)) (c .before .before .before .before .items-in .ensures)) (c .matches-some .ensures)
+    rw (free (a .f) _ (membersOf (widthBytes (a .width)) (now (a .path))) (sym (c .before .before .is-start .ensures) ∙ c .before .if1 .left), ← counted-same (a .f .count) (now (a .records)) (c .before .before .before .before .items-in .ensures)) (c .matches-some .ensures)
 
 pub matches-spec : {M : Type 1} → statement M
 matches-spec =

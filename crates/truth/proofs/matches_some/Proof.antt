@@ -8,9 +8,10 @@ use lib.ListN.{length}
 use Rattle.aspath.specs.declared.Item.{Item}
 use Rattle.aspath.specs.declared.Cursor.{Cursor}
 use Rattle.aspath.specs.Members.{Member}
-use Rattle.aspath.specs.Wire.{bytes, membersOf}
+use Rattle.aspath.specs.Wire.{widthBytes, membersOf}
 use Rattle.aspath.specs.Patterns.{matchesHere, matchesSome}
-use Rattle.aspath.proofs.Cursors.{remaining, member-view, end-view, whole-path}
+use Rattle.aspath.specs.Cursors.{remaining}
+use Rattle.aspath.proofs.Cursors.{member-view, end-view, whole-path}
 use Rattle.truth.specs.Matching.{itemsIn}
 use Rattle.truth.proofs.PathReads.{at-members, some-here, some-none, some-next}
 use Rattle.truth.proofs.matches_some.Statement.{statement}
@@ -18,16 +19,16 @@ use Rattle.truth.proofs.matches_some.Tie as tie
 
 abbrev Inv-loop : tie.InvT-loop
 Inv-loop records count end path width c₀ c =
-    matchesSome end (itemsIn count records) (remaining (bytes width) path c) ≡ matchesSome end (itemsIn count records) (membersOf (bytes width) path)
+    matchesSome end (itemsIn count records) (remaining (widthBytes width) path c) ≡ matchesSome end (itemsIn count records) (membersOf (widthBytes width) path)
 
 abbrev μ-loop : tie.MeasureT-loop
-μ-loop records count end path width c₀ c = length (remaining (bytes width) path c)
+μ-loop records count end path width c₀ c = length (remaining (widthBytes width) path c)
 
 abbrev items : tie.At-loop Inv-loop μ-loop → List Item
 items b = itemsIn (b .before .before .before .args .count) (now (b .before .before .before .args .records))
 
 abbrev from : tie.At-loop Inv-loop μ-loop → Cursor → List Member
-from b = remaining (bytes (b .before .before .before .args .width)) (now (b .before .before .before .args .path))
+from b = remaining (widthBytes (b .before .before .before .args .width)) (now (b .before .before .before .args .path))
 
 -- what matching from the cursor on answers
 answer : (k : tie.After-matches-here Inv-loop μ-loop) → let b = k .before in
@@ -41,7 +42,7 @@ here k = member-view _ _ _ (sym (k .before .before .member-at .ensures) ∙ k .n
 
 loop-holds : tie.Need-loop-holds Inv-loop μ-loop
 loop-holds c = let a = c .before .before .args in
-    ap (matchesSome (a .end) (itemsIn (a .count) (now (a .records)))) (whole-path (bytes (a .width)) (now (a .path)))
+    ap (matchesSome (a .end) (itemsIn (a .count) (now (a .records)))) (whole-path (widthBytes (a .width)) (now (a .path)))
 
 matches-here-requires : tie.Need-matches-here-requires Inv-loop μ-loop
 matches-here-requires c κs = search needs

@@ -2,7 +2,7 @@
 use mathlib.Core.Path.{refl, sym, _∙_}
 use denote.Ref.{now}
 use borrow.Author.Needs.{needs}
-use Rattle.aspath.specs.Wire.{bytes}
+use Rattle.aspath.specs.Wire.{widthBytes}
 use Rattle.attributes.proofs.Lookup.{asks-path, first-found}
 use Rattle.truth.proofs.true_of_section.Statement.{statement}
 use Rattle.truth.proofs.true_of_section.Tie as tie
@@ -25,11 +25,11 @@ enum-told c = search needs
 returns : tie.Need-returns
 returns c = let a = c .before .before .before .before .before .before .before .before .args in
     let e = sym (c .before .before .before .before .before .find .ensures) ∙ c .before .before .before .found .given .1 in
-    rw (first-found (asks-path (bytes (a .width))) (now (a .section)), e, ← c .before .part .ensures) (c .true-of-path .ensures)
+    rw (first-found (asks-path (widthBytes (a .width))) (now (a .section)), e, ← c .before .part .ensures) (c .true-of-path .ensures)
 
 returns-2 : tie.Need-returns-2
 returns-2 c = let a = c .before .before .before .before .before .args in
-    rw (first-found (asks-path (bytes (a .width))) (now (a .section)), sym (c .before .before .find .ensures) ∙ c .enum-told .given .1) refl
+    rw (first-found (asks-path (widthBytes (a .width))) (now (a .section)), sym (c .before .before .find .ensures) ∙ c .enum-told .given .1) refl
 
 pub true-of-section-spec : {M : Type 1} → statement M
 true-of-section-spec =

@@ -1,0 +1,34 @@
+-- Which attributes have bytes, over the width w of an AS number in bytes, and how many.
+use Prim.Native.Nat.{ℕ, _+_, _^_, _≤_, _<_}
+use lib.ListN.{length}
+use lib.Dec.{ltb}
+use Rattle.octets.specs.Choice.{pick}
+use Rattle.octets.specs.Numbers.{Octets}
+use Rattle.octets.specs.Lists.{Every, total}
+use Rattle.aspath.specs.Encodable.{segmentCost, EncodableSegment}
+use Rattle.attributes.specs.Attribute.{Attribute, origin, asPath, nextHop, atomicAggregate, other}
+use Rattle.attributes.specs.Bodies.{Unchecked}
+
+-- the bytes of the body that says it
+unfoldable pub bodyCost : ℕ → Attribute → ℕ
+bodyCost w (origin n) = 1
+bodyCost w (asPath segments) = total (segmentCost w) segments
+bodyCost w (nextHop a) = 4
+bodyCost w atomicAggregate = 0
+bodyCost w (other code body) = length body
+
+-- an attribute that has bytes: what it says fits, and its body is shorter than 2 ^ 16
+abbrev pub EncodableAttribute : ℕ → Attribute → Type 0
+EncodableAttribute w (origin n) = n ≤ 2
+EncodableAttribute w (asPath segments) = Every (EncodableSegment w) segments × (total (segmentCost w) segments < 65536)
+EncodableAttribute w (nextHop a) = a < 2 ^ 32
+EncodableAttribute w atomicAggregate = Unit {0}
+EncodableAttribute w (other code body) = Unchecked code × (code < 256) × Octets body × (length body < 65536)
+
+-- the bytes of an attribute with a body of n bytes: its length is one byte where that will do
+unfoldable pub withHeader : ℕ → ℕ
+withHeader n = n + pick (ltb n 256) 3 4
+
+-- its fewest bytes: a length of one byte may also be written in two
+abbrev pub attributeCost : ℕ → Attribute → ℕ
+attributeCost w a = withHeader (bodyCost w a)
