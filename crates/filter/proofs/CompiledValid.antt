@@ -11,8 +11,8 @@ use Rattle.operand.proofs.MeaningsPossible.{means-possible}
 use Rattle.filter.specs.Words.{Role, joins, flag, name, vocabulary}
 use Rattle.filter.specs.Grammar.{Part, Reads, flagged, tested, negated, grouped, single, anded, lone, ored}
 use Rattle.filter.specs.Answers.{Answers, compiles, compiled}
-use Rattle.operand.specs.Tables.{Row}
-use Rattle.operand.proofs.Finding.{in-each}
+use Rattle.names.specs.Tables.{Row}
+use Rattle.names.proofs.Finding.{in-each}
 
 -- a role whose test, if it is one, is possible
 abbrev RolePossible : Role → Type 0

@@ -20,8 +20,9 @@ use Rattle.operand.specs.declared.Name.{Name}
 use Rattle.operand.specs.declared.Name.the-variants.{Network as networkName}
 use Rattle.operand.specs.Decimals.{Digits, end}
 use Rattle.operand.specs.Decimals as decimals
-use Rattle.operand.specs.Tables.{Row}
-use Rattle.operand.specs.Codes.{typeNames, attributeNames, CodeOperand, by-code}
+use Rattle.names.specs.Tables.{Row}
+use Rattle.names.specs.Names.{typeNames, attributeNames}
+use Rattle.operand.specs.Codes.{CodeOperand, by-code}
 use Rattle.operand.specs.Addresses.{NetworkText, plain, plus, minus}
 use Rattle.operand.specs.Peers.{by-as, by-address, by-both}
 use Rattle.operand.specs.Patterns.{ItemText, a-number, not-it, any, ItemsText, empty, last}

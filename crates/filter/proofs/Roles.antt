@@ -12,9 +12,9 @@ use Rattle.program.specs.Readings.{and, hasLoop}
 use Rattle.filter.specs.Parsing.{operandRows, roleIn}
 use Rattle.filter.specs.Words.{Role, flag, joins, vocabulary, Says, roleOf}
 use Rattle.octets.specs.Equal.{same}
-use Rattle.operand.proofs.Holding.{holds-some, some-once}
-use Rattle.operand.proofs.Finding.{distinct, found-sound, found-row}
-use Rattle.operand.specs.Tables.{Row, row, here, there, found}
+use Rattle.operand.proofs.Holding.{some-once}
+use Rattle.names.proofs.Finding.{distinct, found-sound, found-row}
+use Rattle.names.specs.Tables.{Row, row, here, there, found}
 
 -- the words of the vocabulary differ
 pub words-differ : distinct vocabulary ≡ true
@@ -24,7 +24,7 @@ words-differ = refl
 -- a role that was found is said
 pub role-said : (w : List ℕ) {r : Role} → roleOf w ≡ some r → Says w r
 unfolding roleOf
-role-said w e = holds-some (found-sound vocabulary w) e
+role-said w e = found-sound vocabulary w e
 
 -- and none is missed
 pub said-role : {w : List ℕ} {r : Role} → Says w r → roleOf w ≡ some r

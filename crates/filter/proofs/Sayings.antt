@@ -18,8 +18,8 @@ use Rattle.token.specs.Texts as texts
 use Rattle.operand.specs.declared.Name.{Name}
 use Rattle.operand.specs.declared.Name.the-variants.{MessageType as typeName, Attribute as attributeName, Path as pathName, Peer as peerName, Time as timeName, Network as networkName}
 use Rattle.filter.specs.Words.{Role, joins, flag, name, vocabulary, Says}
-use Rattle.operand.specs.Tables.{Row}
-use Rattle.operand.proofs.Finding.{in-each, in-place}
+use Rattle.names.specs.Tables.{Row}
+use Rattle.names.proofs.Finding.{in-each, in-place}
 use Rattle.filter.proofs.Roles.{past}
 use Rattle.filter.proofs.Spelling.{Wordly}
 

@@ -16,7 +16,7 @@ use Rattle.token.specs.Next.{left, Closed, nextAt}
 use Rattle.token.specs.declared.Kind.{Kind}
 use Rattle.token.specs.declared.Kind.the-variants.{End, Open, Close, Bang, Word, Quoted, Unclosed}
 use Rattle.token.specs.declared.Lexeme.{Lexeme}
-use Rattle.operand.specs.Tables.{Row}
+use Rattle.names.specs.Tables.{Row}
 use Rattle.filter.specs.Words.{joins, flag, name, vocabulary, roleOf}
 use Rattle.filter.specs.Words as words
 use Rattle.filter.specs.Grammar.{Part, expression, conjunction, factor}

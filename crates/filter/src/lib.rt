@@ -10,7 +10,7 @@ ghost use Rattle.filter.specs.Grammar.{expression as an-expression, conj
 ghost use Rattle.filter.specs.Answering.{numberOf, answer, valueOf, saidOf, bufferOf};
 ghost use Rattle.program.specs.Layout.{fields};
 ghost use Rattle.filter.specs.Parsing.{roleSaid, operandRows, roleIn, operandKind, opensLevel, Ready, PartSays, TestSays, Whole};
-ghost use Rattle.operand.specs.Tables.{found};
+ghost use Rattle.names.specs.Tables.{found};
 use network::Relation;
 use operand::Meant;
 use operand::Name;

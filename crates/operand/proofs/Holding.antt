@@ -12,9 +12,10 @@ pub data Holds {A : Type 0} (P : A → Type 0) : Option A → Type 0 where
   nothing : Holds P none
   held : {a : A} → P a → Holds P (some a)
 
-abbrev pub missing : {A : Type 0} → Option A → Bool
-missing none = true
-missing (some a) = false
+-- what is so of an answer wherever it is given
+pub holds-of : {A : Type 0} {P : A → Type 0} (o : Option A) → ((a : A) → o ≡ some a → P a) → Holds P o
+holds-of none f = nothing
+holds-of (some a) f = held (f a refl)
 
 -- what goes on from what holds holds
 pub holds-onward : {A B : Type 0} {P : A → Type 0} {Q : B → Type 0} {o : Option A} {f : A → Option B} → Holds P o → ((a : A) → P a → Holds Q (f a)) → Holds Q (onward o f)

@@ -1,6 +1,5 @@
 pub mod Blanks
 pub mod Decimals
-pub mod Finding
 pub mod Fractions
 pub mod FrontReads
 pub mod Holding

@@ -10,7 +10,7 @@ use Rattle.operand.proofs.OperandNetworks.{networkOperand-sound, networ
 use Rattle.operand.proofs.OperandPatterns.{pattern-sound, pattern-complete}
 use Rattle.operand.proofs.OperandPeers.{peer-sound, peer-complete}
 use Rattle.operand.proofs.OperandTimes.{time-sound, time-complete}
-use Rattle.operand.specs.Codes.{typeNames, attributeNames}
+use Rattle.names.specs.Names.{typeNames, attributeNames}
 use Rattle.operand.specs.declared.Name.{Name}
 use Rattle.operand.specs.declared.Name.the-variants.{MessageType as typeName, Attribute as attributeName, Path as pathName, Peer as peerName, Time as timeName, Network as networkName}
 use Rattle.operand.specs.Tests.{StandsFor, type, attribute, path, peer, network, time, meaning}

@@ -20,8 +20,9 @@ use Rattle.program.specs.Readings.{Peer, Side, Comparison, Test}
 use Rattle.program.specs.Records.{Code, Bits32, ItemPossible, PeerPossible, NetworkPossible, TimePossible}
 use Rattle.program.proofs.ReadingValid.{PatternPossible, PossibleTest}
 use Rattle.operand.specs.Decimals.{Digits, end, more}
-use Rattle.operand.specs.Tables.{Row, In, here, there}
-use Rattle.operand.specs.Codes.{typeNames, attributeNames, CodeOperand, by-name, by-code}
+use Rattle.names.specs.Tables.{Row, In, here, there}
+use Rattle.names.specs.Names.{typeNames, attributeNames}
+use Rattle.operand.specs.Codes.{CodeOperand, by-name, by-code}
 use Rattle.operand.specs.Addresses.{Address, NetworkText, NetworkOperand, plain, plus, minus}
 use Rattle.operand.specs.Peers.{PeerOperand, by-as, by-address, by-both}
 use Rattle.operand.specs.Patterns.{empty, ItemText, a-number, not-it, any, ItemsText, last, more, PatternOperand}

@@ -4,22 +4,23 @@ use mathlib.Core.Path.{_≡_, refl}
 use mathlib.Core.Bool.{Bool, true, false}
 use mathlib.Core.Option.{none, some}
 use mathlib.Core.List.{List, [], _∷_}
-use lib.ListN.{drop}
 use Rattle.octets.specs.Choice.{pick}
 use Rattle.octets.specs.Equal.{same}
 use Rattle.octets.proofs.Choices.{never, each}
 use Rattle.octets.proofs.Equals.{same-true}
-use Rattle.operand.proofs.Holding.{Holds, missing, holds-else, holds-map}
-use Rattle.operand.proofs.Finding.{distinct, found-sound, found-row}
+use Rattle.operand.proofs.Holding.{Holds, holds-of, holds-else, holds-map}
+use Rattle.names.proofs.Finding.{missing, distinct, found-sound, found-row}
 use Rattle.operand.proofs.Decimals.{numeral-sound, numeral-complete}
-use Rattle.operand.specs.Tables.{Row, found}
-use Rattle.operand.specs.Codes.{typeNames, attributeNames, CodeOperand, by-name, by-code, coded}
+use Rattle.names.specs.Tables.{Row, found}
+use Rattle.names.specs.Names.{typeNames, attributeNames}
+use Rattle.names.proofs.NamesDiffer.{types-differ, attributes-differ}
+use Rattle.operand.specs.Codes.{CodeOperand, by-name, by-code, coded}
 use Rattle.operand.specs.Decimals.{isDigit, numberOn, number, numeral}
 
 -- a code that was found is meant
 pub coded-sound : (names : List (Row ℕ)) (l : List ℕ) → Holds (CodeOperand names l) (coded names l)
 unfolding coded
-coded-sound names l = holds-else (holds-map (λ a x. by-name x) (found-sound names l)) (holds-map (λ a b. by-code b) (numeral-sound 256 l))
+coded-sound names l = holds-else (holds-of (found names l) (λ a e. by-name (found-sound names l e))) (holds-map (λ a b. by-code b) (numeral-sound 256 l))
 
 -- no name is a code
 unfoldable pub lettered : List (Row ℕ) → Bool
@@ -50,26 +51,12 @@ unfolding coded
 coded-complete t (by-name x) = rw (found-row (t .differ) x)
 coded-complete {names} {l} t (by-code b) = rw (found-none names l (t .letters) (numeral-complete b), numeral-complete b)
 
--- the names of message types differ
-pub types-differ : distinct typeNames ≡ true
-unfolding typeNames distinct found same
-types-differ = refl
-
--- those of attributes do
-pub attributes-differ : distinct attributeNames ≡ true
-unfolding attributeNames distinct found same
-attributes-differ = refl
-
--- and so do the later ones
-pub later-differ : distinct (drop 8 attributeNames) ≡ true
-unfolding attributeNames distinct found same
-later-differ = refl
-
--- and neither are codes
+-- no name of a message type is a code
 pub types-tell : Telling typeNames
 unfolding typeNames lettered numeral number numberOn isDigit
 types-tell = record { differ = types-differ; letters = refl }
 
+-- nor of an attribute
 pub attributes-tell : Telling attributeNames
 unfolding attributeNames lettered numeral number numberOn isDigit
 attributes-tell = record { differ = attributes-differ; letters = refl }

@@ -1,6 +1,5 @@
 pub mod Fronts
 pub mod Decimals
-pub mod Tables
 pub mod Codes
 pub mod Addresses
 pub mod Peers

@@ -13,7 +13,8 @@ use Rattle.program.specs.Layout.{fields, fieldsOf}
 use Rattle.program.specs.Compiling.{headOf}
 use Rattle.token.specs.Texts.{textLimit}
 use Rattle.operand.specs.Fronts.{onward}
-use Rattle.operand.specs.Codes.{typeNames, attributeNames, CodeOperand, coded}
+use Rattle.names.specs.Names.{typeNames, attributeNames}
+use Rattle.operand.specs.Codes.{CodeOperand, coded}
 use Rattle.operand.specs.Addresses.{NetworkOperand, networkOperand}
 use Rattle.operand.specs.Peers.{PeerOperand, peerOperand}
 use Rattle.operand.specs.Patterns.{PatternOperand, patternOperand}

@@ -13,8 +13,7 @@ ghost use Rattle.program.specs.Layout.{fields, fieldsOf, encodeAll, relationCod
 ghost use Rattle.token.specs.Texts.{textLimit};
 ghost use Rattle.operand.specs.Fronts.{onward};
 ghost use Rattle.operand.specs.Decimals.{isDigit, number, numeral, valueOf, ReadAt};
-ghost use Rattle.operand.specs.Tables.{found};
-ghost use Rattle.operand.specs.Codes.{namedCode, typeNames, attributeNames};
+ghost use Rattle.names.specs.Names.{namedCode};
 ghost use Rattle.operand.specs.Addresses.{partRead, addressRead, networkRead};
 ghost use Rattle.operand.specs.Peers.{behindAddress};
 ghost use Rattle.operand.specs.Patterns.{OptionalEnd, ItemAt, ItemsAt, itemsAtFront};
@@ -133,81 +132,6 @@ fn numeral(s: &[u8], at: usize, limit: u64) -> Number
         return Number::Missing;
     }
     Number::Read { value, end }
-}
-
-// The code of a message type's name, 0 where it is none.
-fn type_named(bytes: &[u8]) -> u32
-    ensures { λ r. ⌜ namedCode r ≡ found typeNames (now (bytes .entry)) ⌝ }
-{
-    if octets::same(bytes, b"OPEN") {
-        return 1;
-    }
-    if octets::same(bytes, b"UPDATE") {
-        return 2;
-    }
-    if octets::same(bytes, b"NOTIFICATION") {
-        return 3;
-    }
-    if octets::same(bytes, b"KEEPALIVE") {
-        return 4;
-    }
-    if octets::same(bytes, b"ROUTE_REFRESH") {
-        return 5;
-    }
-    0
-}
-
-// The codes of the attributes' names from 14 on.
-fn later_attribute_named(bytes: &[u8]) -> u32
-    ensures { λ r. ⌜ namedCode r ≡ found (drop 8 attributeNames) (now (bytes .entry)) ⌝ }
-{
-    if octets::same(bytes, b"MP_REACH_NLRI") {
-        return 14;
-    }
-    if octets::same(bytes, b"MP_UNREACH_NLRI") {
-        return 15;
-    }
-    if octets::same(bytes, b"AS4_PATH") {
-        return 17;
-    }
-    if octets::same(bytes, b"AS4_AGGREGATOR") {
-        return 18;
-    }
-    if octets::same(bytes, b"LARGE_COMMUNITY") {
-        return 32;
-    }
-    0
-}
-
-// The code of an attribute's name, 0 where it is none.
-fn attribute_named(bytes: &[u8]) -> u32
-    ensures { λ r. ⌜ namedCode r ≡ found attributeNames (now (bytes .entry)) ⌝ }
-{
-    if octets::same(bytes, b"ORIGIN") {
-        return 1;
-    }
-    if octets::same(bytes, b"AS_PATH") {
-        return 2;
-    }
-    if octets::same(bytes, b"NEXT_HOP") {
-        return 3;
-    }
-    if octets::same(bytes, b"MULTI_EXIT_DISC") {
-        return 4;
-    }
-    if octets::same(bytes, b"LOCAL_PREF") {
-        return 5;
-    }
-    if octets::same(bytes, b"ATOMIC_AGGREGATE") {
-        return 6;
-    }
-    if octets::same(bytes, b"AGGREGATOR") {
-        return 7;
-    }
-    if octets::same(bytes, b"COMMUNITY") {
-        return 8;
-    }
-    later_attribute_named(bytes)
 }
 
 // The record of a code: that of a name, or where there is none the number.
@@ -587,8 +511,8 @@ pub fn meaning(name: Name, bytes: &[u8]) -> Meant
         return Meant::Broken;
     }
     match name {
-        Name::MessageType => code_record(1, type_named(bytes), bytes),
-        Name::Attribute => code_record(2, attribute_named(bytes), bytes),
+        Name::MessageType => code_record(1, names::type_named(bytes), bytes),
+        Name::Attribute => code_record(2, names::attribute_named(bytes), bytes),
         Name::Path => pattern(bytes),
         Name::Peer => peer(bytes),
         Name::Time => time(bytes),

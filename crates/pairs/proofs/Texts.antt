@@ -19,7 +19,7 @@ use Rattle.operand.specs.Fronts.{after, optional, cut}
 use Rattle.token.specs.Next.{isBlank}
 use Rattle.operand.specs.Decimals.{isDigit, numberOn, number, numeral}
 use Rattle.octets.specs.Equal.{same}
-use Rattle.operand.specs.Tables.{found}
+use Rattle.names.specs.Tables.{found}
 use Rattle.operand.specs.Addresses.{partRead, addressRead, networkRead, networkOperand}
 use Rattle.operand.specs.Peers.{peerOperand}
 use Rattle.operand.specs.Patterns.{itemRead, itemsRead, patternOperand}

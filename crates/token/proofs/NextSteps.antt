@@ -15,7 +15,7 @@ use Rattle.octets.specs.Choice.{pick}
 use Rattle.token.specs.Texts.{Blank}
 use Rattle.token.specs.Tokens.{Token, open′, close, bang, word, quoted, Mark, opening, closing, banging, Letter, Stops, at-end, before, placed}
 use Rattle.token.specs.Lexer.{Sort, blank, quote, letter, mark, sort, tokens, unclosed, between, emit, lex}
-use Rattle.token.specs.Next.{lexFrom, isBlank, isLetter, isInner, run, runEnd, lexeme, quoteAt, startAt, nextAt, bytesOf, bytesIn, tokenIn}
+use Rattle.token.specs.Next.{lexFrom, isBlank, isLetter, isInner, run, runEnd, lexeme, quoteAt, startAt, nextAt, bytesOfKind, bytesIn, tokenIn}
 use Rattle.token.specs.declared.Kind.{Kind}
 use Rattle.token.specs.declared.Kind.the-variants.{End, Open, Close, Bang, Word, Quoted, Unclosed}
 use Rattle.token.specs.declared.Lexeme.{Lexeme}
@@ -82,7 +82,7 @@ module _ (text : List ℕ) (p : ℕ) (h : p < length text) where
   -- a word
   takes-word : Letter (getD text p 0)
       → Takes text p (lexeme Word p (runEnd isLetter text (p + 1))) (word (getD text p 0 ∷ take (run isLetter (drop (p + 1) text)) (drop (p + 1) text)))
-  unfolding bytesOf
+  unfolding bytesOfKind
   takes-word l =
       let b = getD text p 0 in
       let n = run isLetter (drop (p + 1) text) in
@@ -112,7 +112,7 @@ module _ (text : List ℕ) (p : ℕ) (h : p < length text) where
   -- a quoted token
   takes-quoted : getD text p 0 ≡ 39 → runEnd isInner text (p + 1) < length text
       → Takes text p (lexeme Quoted p (runEnd isInner text (p + 1) + 1)) (quoted (take (run isInner (drop (p + 1) text)) (drop (p + 1) text)))
-  unfolding bytesOf
+  unfolding bytesOfKind
   takes-quoted q i =
       let n = run isInner (drop (p + 1) text) in
       let w = take n (drop (p + 1) text) in
@@ -151,7 +151,7 @@ module _ (text : List ℕ) (p : ℕ) (h : p < length text) where
 
   -- any byte but a blank
   steps-byte : (b : ℕ) → getD text p 0 ≡ b → (s : Sort) → OfSort b s → (Blank b → ⊥) → Step text p (startAt text p)
-  unfolding startAt bytesOf
+  unfolding startAt bytesOfKind
   steps-byte b e blank k n = absurd (n k)
   steps-byte b e (mark t) opening n = rw (lt-leb _ _ h, e) (takes (takes-mark Open e opening refl refl))
   steps-byte b e (mark t) closing n = rw (lt-leb _ _ h, e) (takes (takes-mark Close e closing refl refl))

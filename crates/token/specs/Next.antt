@@ -92,18 +92,18 @@ abbrev pub part : List ℕ → ℕ → ℕ → List ℕ
 part text start end = take (end - start) (drop start text)
 
 -- the bytes of a token by its kind, from a place up to another
-unfoldable pub bytesOf : List ℕ → Kind → ℕ → ℕ → List ℕ
-bytesOf text End s e = []
-bytesOf text Open s e = []
-bytesOf text Close s e = []
-bytesOf text Bang s e = []
-bytesOf text Word s e = part text s e
-bytesOf text Quoted s e = part text (s + 1) (e - 1)
-bytesOf text Unclosed s e = []
+unfoldable pub bytesOfKind : List ℕ → Kind → ℕ → ℕ → List ℕ
+bytesOfKind text End s e = []
+bytesOfKind text Open s e = []
+bytesOfKind text Close s e = []
+bytesOfKind text Bang s e = []
+bytesOfKind text Word s e = part text s e
+bytesOfKind text Quoted s e = part text (s + 1) (e - 1)
+bytesOfKind text Unclosed s e = []
 
 -- the bytes of a word, and those between the quotes of a quoted token
 abbrev pub bytesIn : List ℕ → Lexeme → List ℕ
-bytesIn text l = bytesOf text (l .kind) (l .start) (l .end)
+bytesIn text l = bytesOfKind text (l .kind) (l .start) (l .end)
 
 -- a token of a kind, with its bytes
 abbrev pub tokenOf : Kind → List ℕ → Option Token

@@ -134,8 +134,8 @@ fn it_has_every_test_and_no_other() {
 #[test]
 fn it_has_every_name_of_a_type_and_an_attribute() {
     let page = page();
-    let operand = source("crates/operand/src/lib.rt");
-    let names = byte_strings(&operand, |c| c.is_ascii_uppercase());
+    let source = source("crates/names/src/lib.rt");
+    let names = byte_strings(&source, |c| c.is_ascii_uppercase());
     assert!(names.len() >= 18, "{names:?}");
     let tests = under(&page, ".SS Tests");
     let words: BTreeSet<&str> = tests.split([' ', '\n', ',', ':']).collect();

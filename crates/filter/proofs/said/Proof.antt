@@ -3,7 +3,7 @@ use native.Mathlib.Omega.{arith}
 use mathlib.Core.Path.{sym, _∙_}
 use borrow.Author.Needs.{needs}
 use Rattle.filter.specs.Words.{vocabulary, roleOf}
-use Rattle.operand.proofs.Finding.{row-found, none-missed, one-missed, missed-found}
+use Rattle.names.proofs.Finding.{row-found, none-missed, one-missed, missed-found}
 use Rattle.filter.proofs.Roles.{past, words-differ}
 use Rattle.filter.proofs.said.Statement.{statement}
 use Rattle.filter.proofs.said.Tie as tie

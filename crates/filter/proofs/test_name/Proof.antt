@@ -3,10 +3,10 @@ use native.Mathlib.Omega.{arith}
 use mathlib.Core.Path.{sym}
 use mathlib.Core.List.{[]}
 use borrow.Author.Needs.{needs}
-use Rattle.operand.specs.Tables.{found}
+use Rattle.names.specs.Tables.{found}
 use Rattle.filter.specs.Words.{vocabulary}
 use Rattle.filter.specs.Parsing.{operandRows}
-use Rattle.operand.proofs.Finding.{row-found, none-missed, one-missed, missed-found}
+use Rattle.names.proofs.Finding.{row-found, none-missed, one-missed, missed-found}
 use Rattle.filter.proofs.Roles.{past, names-differ}
 use Rattle.filter.proofs.test_name.Statement.{statement}
 use Rattle.filter.proofs.test_name.Tie as tie

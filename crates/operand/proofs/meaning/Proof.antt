@@ -10,7 +10,8 @@ use Rattle.program.specs.Readings.{typeIs, hasAttribute}
 use Rattle.program.specs.Layout.{fieldsOf}
 use Rattle.program.specs.Compiling.{headOf}
 use Rattle.operand.specs.Fronts.{onward}
-use Rattle.operand.specs.Codes.{coded, typeNames, attributeNames}
+use Rattle.names.specs.Names.{typeNames, attributeNames}
+use Rattle.operand.specs.Codes.{coded}
 use Rattle.operand.specs.Tests.{meaning, meantOf, meantBy, codeMeant}
 use Rattle.operand.proofs.meaning.Statement.{statement}
 use Rattle.operand.proofs.meaning.Tie as tie

@@ -1,6 +1,6 @@
 -- `token::bytes` meets its contract, one kind after another. Assumes nothing.
 use borrow.Author.Needs.{needs}
-use Rattle.token.specs.Next.{bytesOf}
+use Rattle.token.specs.Next.{bytesOfKind}
 use Rattle.token.proofs.bytes.Statement.{statement}
 use Rattle.token.proofs.bytes.Tie as tie
 
@@ -47,31 +47,31 @@ slice-aggregate-result-5 : tie.Need-slice-aggregate-result-5
 slice-aggregate-result-5 c = search needs
 
 returns : tie.Need-returns
-unfolding bytesOf
+unfolding bytesOfKind
 returns c = rw (c .before .enum-told .given .1)
 
 returns-2 : tie.Need-returns-2
-unfolding bytesOf
+unfolding bytesOfKind
 returns-2 c = rw (c .before .enum-told2 .given .1)
 
 returns-3 : tie.Need-returns-3
-unfolding bytesOf
+unfolding bytesOfKind
 returns-3 c = rw (c .before .enum-told3 .given .1)
 
 returns-4 : tie.Need-returns-4
-unfolding bytesOf
+unfolding bytesOfKind
 returns-4 c = rw (c .before .enum-told4 .given .1)
 
 returns-5 : tie.Need-returns-5
-unfolding bytesOf
+unfolding bytesOfKind
 returns-5 c = rw (c .before .enum-told5 .given .1) (c .between .ensures)
 
 returns-6 : tie.Need-returns-6
-unfolding bytesOf
+unfolding bytesOfKind
 returns-6 c = rw (c .before .enum-told6 .given .1) (c .inside .ensures)
 
 returns-7 : tie.Need-returns-7
-unfolding bytesOf
+unfolding bytesOfKind
 returns-7 c = rw (c .before .enum-told7 .given .1)
 
 pub bytes-spec : {M : Type 1} → statement M

@@ -1,14 +1,14 @@
--- `operand::attribute_named` meets its contract: the names in the order of the table. Assumes nothing.
+-- `names::attribute_named` meets its contract: the names in the order of the table. Assumes nothing.
 use native.Mathlib.Omega.{arith}
 use borrow.Author.Needs.{needs}
 use mathlib.Core.Path.{sym, _∙_}
 use mathlib.Core.List.{[]}
-use Rattle.operand.specs.Tables.{row}
-use Rattle.operand.specs.Codes.{attributeNames}
-use Rattle.operand.proofs.Finding.{row-found, none-missed, one-missed, missed-found}
-use Rattle.operand.proofs.OperandCodes.{attributes-differ}
-use Rattle.operand.proofs.attribute_named.Statement.{statement}
-use Rattle.operand.proofs.attribute_named.Tie as tie
+use Rattle.names.specs.Tables.{row}
+use Rattle.names.specs.Names.{attributeNames}
+use Rattle.names.proofs.Finding.{row-found, none-missed, one-missed, missed-found}
+use Rattle.names.proofs.NamesDiffer.{attributes-differ}
+use Rattle.names.proofs.attribute_named.Statement.{statement}
+use Rattle.names.proofs.attribute_named.Tie as tie
 
 slice-aggregate-same : tie.Need-slice-aggregate-same
 slice-aggregate-same c = search needs

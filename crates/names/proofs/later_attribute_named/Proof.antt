@@ -1,14 +1,15 @@
--- `operand::type_named` meets its contract: the names in the order of the table. Assumes nothing.
+-- `names::later_attribute_named` meets its contract: the names in the order of the table. Assumes nothing.
 use native.Mathlib.Omega.{arith}
 use borrow.Author.Needs.{needs}
 use mathlib.Core.Path.{sym}
 use mathlib.Core.List.{[]}
-use Rattle.operand.specs.Tables.{row, found}
-use Rattle.operand.specs.Codes.{typeNames}
-use Rattle.operand.proofs.Finding.{row-found, none-missed, one-missed, missed-found}
-use Rattle.operand.proofs.OperandCodes.{types-differ}
-use Rattle.operand.proofs.type_named.Statement.{statement}
-use Rattle.operand.proofs.type_named.Tie as tie
+use lib.ListN.{drop}
+use Rattle.names.specs.Tables.{row, found}
+use Rattle.names.specs.Names.{attributeNames}
+use Rattle.names.proofs.Finding.{row-found, none-missed, one-missed, missed-found}
+use Rattle.names.proofs.NamesDiffer.{later-differ}
+use Rattle.names.proofs.later_attribute_named.Statement.{statement}
+use Rattle.names.proofs.later_attribute_named.Tie as tie
 
 slice-aggregate-same : tie.Need-slice-aggregate-same
 slice-aggregate-same c = search needs
@@ -17,8 +18,8 @@ same-requires : tie.Need-same-requires
 same-requires c κs = search needs
 
 returns : tie.Need-returns
-unfolding typeNames
-returns c = sym (row-found typeNames (row [] 0) types-differ 0 (c .before .before .before .before .args .bytes .now) (omega arith) (c .before .same .ensures) (c .if1 .taken))
+unfolding attributeNames
+returns c = sym (row-found (drop 8 attributeNames) (row [] 0) later-differ 0 (c .before .before .before .before .args .bytes .now) (omega arith) (c .before .same .ensures) (c .if1 .taken))
 
 slice-aggregate-same-2 : tie.Need-slice-aggregate-same-2
 slice-aggregate-same-2 c = search needs
@@ -27,8 +28,8 @@ same-requires-2 : tie.Need-same-requires-2
 same-requires-2 c κs = search needs
 
 returns-2 : tie.Need-returns-2
-unfolding typeNames
-returns-2 c = sym (row-found typeNames (row [] 0) types-differ 1 (c .before .before .before .before .before .before .before .args .bytes .now) (omega arith) (c .before .same2 .ensures) (c .if2 .taken))
+unfolding attributeNames
+returns-2 c = sym (row-found (drop 8 attributeNames) (row [] 0) later-differ 1 (c .before .before .before .before .before .before .before .args .bytes .now) (omega arith) (c .before .same2 .ensures) (c .if2 .taken))
 
 slice-aggregate-same-3 : tie.Need-slice-aggregate-same-3
 slice-aggregate-same-3 c = search needs
@@ -37,8 +38,8 @@ same-requires-3 : tie.Need-same-requires-3
 same-requires-3 c κs = search needs
 
 returns-3 : tie.Need-returns-3
-unfolding typeNames
-returns-3 c = sym (row-found typeNames (row [] 0) types-differ 2 (c .before .before .before .before .before .before .before .before .before .before .args .bytes .now) (omega arith) (c .before .same3 .ensures) (c .if3 .taken))
+unfolding attributeNames
+returns-3 c = sym (row-found (drop 8 attributeNames) (row [] 0) later-differ 2 (c .before .before .before .before .before .before .before .before .before .before .args .bytes .now) (omega arith) (c .before .same3 .ensures) (c .if3 .taken))
 
 slice-aggregate-same-4 : tie.Need-slice-aggregate-same-4
 slice-aggregate-same-4 c = search needs
@@ -47,8 +48,8 @@ same-requires-4 : tie.Need-same-requires-4
 same-requires-4 c κs = search needs
 
 returns-4 : tie.Need-returns-4
-unfolding typeNames
-returns-4 c = sym (row-found typeNames (row [] 0) types-differ 3 (c .before .before .before .before .before .before .before .before .before .before .before .before .before .args .bytes .now) (omega arith) (c .before .same4 .ensures) (c .if4 .taken))
+unfolding attributeNames
+returns-4 c = sym (row-found (drop 8 attributeNames) (row [] 0) later-differ 3 (c .before .before .before .before .before .before .before .before .before .before .before .before .before .args .bytes .now) (omega arith) (c .before .same4 .ensures) (c .if4 .taken))
 
 slice-aggregate-same-5 : tie.Need-slice-aggregate-same-5
 slice-aggregate-same-5 c = search needs
@@ -57,11 +58,11 @@ same-requires-5 : tie.Need-same-requires-5
 same-requires-5 c κs = search needs
 
 returns-5 : tie.Need-returns-5
-unfolding typeNames
-returns-5 c = sym (row-found typeNames (row [] 0) types-differ 4 (c .before .before .before .before .before .before .before .before .before .before .before .before .before .before .before .before .args .bytes .now) (omega arith) (c .before .same5 .ensures) (c .if5 .taken))
+unfolding attributeNames
+returns-5 c = sym (row-found (drop 8 attributeNames) (row [] 0) later-differ 4 (c .before .before .before .before .before .before .before .before .before .before .before .before .before .before .before .before .args .bytes .now) (omega arith) (c .before .same5 .ensures) (c .if5 .taken))
 
 returns-6 : tie.Need-returns-6
-unfolding typeNames found
+unfolding attributeNames found
 returns-6 c =
     let c4 = c .before .before .before in
     let c3 = c4 .before .before .before in
@@ -76,8 +77,8 @@ returns-6 c =
     (one-missed (c .before .same5 .ensures) (c .if5 .left)
     none-missed))))))
 
-pub type-named-spec : {M : Type 1} → statement M
-type-named-spec =
+pub later-attribute-named-spec : {M : Type 1} → statement M
+later-attribute-named-spec =
     tie.close
     (tie.spec
     slice-aggregate-same

@@ -3,7 +3,7 @@ use Prim.Native.Nat.{ℕ, zero, suc, _<_}
 use native.Mathlib.Omega.{arith}
 use mathlib.Core.Path.{_≡_, refl, sym, _∙_}
 use mathlib.Core.Bool.{Bool, true, false}
-use mathlib.Core.Option.{some}
+use mathlib.Core.Option.{Option, none, some}
 use mathlib.Core.List.{List, [], _∷_}
 use lib.ListN.{length, getD}
 use Rattle.octets.specs.Choice.{pick}
@@ -11,8 +11,12 @@ use Rattle.octets.specs.Equal.{same}
 use Rattle.octets.proofs.Choices.{never, each}
 use Rattle.octets.proofs.Encode.{Every, every-more}
 use Rattle.octets.proofs.Equals.{same-true, same-itself}
-use Rattle.operand.proofs.Holding.{Holds, nothing, held, missing, holds-pick, holds-map}
-use Rattle.operand.specs.Tables.{Row, In, here, there, found}
+use Rattle.names.specs.Tables.{Row, In, here, there, found}
+
+-- there is no answer
+abbrev pub missing : {A : Type 0} → Option A → Bool
+missing none = true
+missing (some a) = false
 
 module _ {A : Type 0} where
   -- no two rows have the same word
@@ -21,10 +25,14 @@ module _ {A : Type 0} where
   distinct (r ∷ rs) = pick (missing (found rs (r .word))) (distinct rs) false
 
   -- what is found stands in the table
-  pub found-sound : (rows : List (Row A)) (w : List ℕ) → Holds (In rows w) (found rows w)
+  pub found-sound : (rows : List (Row A)) (w : List ℕ) {a : A} → found rows w ≡ some a → In rows w a
   unfolding found
-  found-sound [] w = nothing
-  found-sound (r ∷ rs) w = holds-pick (same w (r .word)) (λ e. held (rw (same-true w (r .word) e) here)) (λ e. holds-map (λ a x. there x) (found-sound rs w))
+  found-sound [] w e = let z : _≡_ {A = ℕ} 0 1 = cc in absurd (omega arith)
+  found-sound (r ∷ rs) w {a} e = go (same w (r .word)) (same-true w (r .word)) (found-sound rs w) e
+    where
+      go : (b : Bool) → (b ≡ true → w ≡ r .word) → (found rs w ≡ some a → In rs w a) → pick b (some (r .value)) (found rs w) ≡ some a → In (r ∷ rs) w a
+      go true f ih e = let z : r .value ≡ a = cc in rw (f refl, ← z) here
+      go false f ih e = there (ih e)
 
   -- and where the words differ, what stands there is found
   pub found-row : {rows : List (Row A)} {w : List ℕ} {a : A} → distinct rows ≡ true → In rows w a → found rows w ≡ some a
