@@ -5,8 +5,8 @@ use native.Mathlib.Nat.{zero-add}
 use mathlib.Core.Path.{_≡_, refl}
 use mathlib.Core.List.{List, _∷_, _++_}
 use lib.ListN.{length}
-use Rattle.octets.proofs.Encode.{every-none, every-more}
-use Rattle.octets.proofs.Encode as list
+use Rattle.octets.specs.Lists.{every-none, every-more}
+use Rattle.octets.specs.Lists as list
 use Rattle.program.specs.Readings.{Reading}
 use Rattle.token.specs.Texts.{space, Allowed, Every, more}
 use Rattle.token.specs.Tokens.{word, Placed, Lexes, blanks}

@@ -9,7 +9,7 @@ use lib.ListN.{length, getD}
 use Rattle.octets.specs.Choice.{pick}
 use Rattle.octets.specs.Equal.{same}
 use Rattle.octets.proofs.Choices.{never, each}
-use Rattle.octets.proofs.Encode.{Every, every-more}
+use Rattle.octets.specs.Lists.{Every, every-more}
 use Rattle.octets.proofs.Equals.{same-true, same-itself}
 use Rattle.names.specs.Tables.{Row, In, here, there, found}
 
