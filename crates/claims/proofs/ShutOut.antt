@@ -1,164 +1,43 @@
 -- The claims are false of the wrong programs that document 01 wants shut out. Assumes nothing.
-use Prim.Native.Nat.{ℕ, zero, suc, _*_, _≤_}
+use Prim.Native.Nat.{ℕ, _≤_}
 use native.Mathlib.Omega.{arith}
 use mathlib.Core.Path.{_≡_, refl, sym, ap, _∙_}
 use mathlib.Core.List.{List, [], _∷_, _++_}
 use mathlib.Core.Option.{Option, some, none}
-use lib.ListN.{length, getD, take, drop, replicate, length-replicate}
-use lib.Seq.{take-at}
-use borrow.Author.Tests.{eq-eqb}
+use lib.ListN.{length, getD, replicate}
 use Rattle.octets.specs.Header.{headerSize}
-use Rattle.octets.specs.Numbers.{Octets, numberAt, bytesOf}
-use Rattle.octets.proofs.Bytes.{octets-append}
-use Rattle.octets.proofs.Encode.{octets-one, bytes-octets}
-use Rattle.octets.proofs.Choices.{never}
+use Rattle.octets.specs.Numbers.{numberAt, bytesOf}
 use Rattle.message.specs.Message.{Message}
 use Rattle.message.proofs.RecordOctets.{represents-octets}
 use Rattle.line.specs.Text.{separated}
 use Rattle.line.specs.Line.{lineOf, linesOf}
-use Rattle.program.specs.Readings.{hasLoop, hasBogon, Reading, test, neg, itemCount, weight, steps}
-use Rattle.program.specs.declared.Fields.{Fields}
-use Rattle.program.specs.Records as program
-use Rattle.program.specs.Layout.{recordSize, fieldsOf, laid, encodeAll}
+use Rattle.program.specs.Readings.{hasLoop, Reading, test, weight, steps}
+use Rattle.program.specs.Layout.{fieldsOf, laid, encodeAll}
 use Rattle.program.specs.Compiling.{headOf, itemsOf, records, programOf}
+use Rattle.program.proofs.ProgramOctets.{program-octets}
 use Rattle.walk.specs.declared.Step.{Step}
-use Rattle.walk.specs.declared.Step.the-variants.{Record}
 use Rattle.walk.specs.Split.{IsRecord, Splits, nothing, placeIn}
 use Rattle.walk.specs.Steps.{placeAfter}
 use Rattle.walk.proofs.Splits.{splits-append, splits-rest}
 use Rattle.truth.specs.Means.{isTrue}
-use Rattle.filter.proofs.CompiledValid.{reads-possible}
 use Rattle.judge.specs.declared.Tally.{Tally}
-use Rattle.judge.specs.Tallies.{FullTally, isFull, tally, oneDropped}
+use Rattle.judge.specs.Tallies.{oneDropped}
 use Rattle.judge.specs.Answers.{dropped}
-use Rattle.judge.specs.Judging.{judgeOf}
-use Rattle.judge.specs.Functions.{Judging, Judge, ourJudge}
+use Rattle.judge.specs.Functions.{Judging, Judge}
 use Rattle.judge.proofs.Answered.{only-judged}
-use Rattle.judge.proofs.Readings.{reading-judged}
-use Rattle.judge.proofs.Tallies.{tally-complete}
 use Rattle.run.specs.Runs.{Runner}
 use Rattle.pairs.specs.RecordR.{recordR, messageR}
 use Rattle.pairs.proofs.RecordR.{record-represents}
 use Rattle.pairs.proofs.Texts.{TextOnR}
 use Rattle.pairs.proofs.KnownPairs.{not-loops}
 use Rattle.pairs.proofs.Samples.{loops, bogon}
-use Rattle.claims.specs.Functions.{Compiler, reported, Walker, placeBy, stepBy}
-use Rattle.claims.specs.Ours.{ourCompiler}
+use Rattle.claims.specs.Functions.{Compiler, Walker, placeBy, stepBy}
 use Rattle.claims.specs.Walk.{Walks}
 use Rattle.claims.specs.DemandOne.{DemandOne}
-use Rattle.claims.specs.DemandTwo.{OnMessage, DemandTwo}
-use Rattle.claims.specs.DemandThree.{Compiles, JudgedSo, DemandThree}
+use Rattle.claims.specs.DemandTwo.{DemandTwo}
+use Rattle.claims.specs.DemandThree.{DemandThree}
 use Rattle.claims.specs.Wrong.{RefusesAll, OneProgram, AlwaysKeeps, WritesNothing, StepsMadeUp, CountsNothing, ReadsAll, NeverMoves}
-use Rattle.claims.proofs.DemandThree.{demand-three, compiled-compiles}
-
--- ---- samples: `-loops`, `! -loops` and `-bogon-asn` on R
-
--- a buffer for two records
-abbrev buffer : List ℕ
-buffer = replicate (recordSize * 2) 0
-
--- both texts of one word have one record
-few-loops : weight (test hasLoop) ≤ 2
-unfolding weight itemCount
-few-loops = omega arith
-
-few-bogon : weight (test hasBogon) ≤ 2
-unfolding weight itemCount
-few-bogon = omega arith
-
-few-not : weight (neg (test hasLoop)) ≤ 2
-unfolding weight itemCount
-few-not = omega arith
-
--- just the room for R's lines
-abbrev room : List ℕ
-room = replicate (length (linesOf messageR)) 0
-
-room-enough : length (linesOf messageR) ≤ length room
-room-enough = omega (arith, length-replicate {A = ℕ} (length (linesOf messageR)) 0)
-
--- which holds zeros
-first-blank : (n : ℕ) → _≡_ {A = ℕ} (getD (replicate n 0) 0 0) 0
-first-blank zero = refl
-first-blank (suc n) = refl
-
--- no tally is not full
-uncounted : FullTally none → ⊥
-uncounted f = never (tally-complete f)
-
--- a program is bytes
-zero-octets : {l : List ℕ} → Octets l → Octets (0 ∷ l)
-zero-octets o = octets-append (octets-one 0 (omega arith)) o
-
-laid-octets : (f : Fields) → Octets (laid f)
-unfolding laid
-laid-octets f =
-    octets-append (bytes-octets 1 (f .kind))
-    (octets-append (bytes-octets 1 (f .variant))
-    (octets-append (bytes-octets 2 (f .count))
-    (octets-append (bytes-octets 4 (f .a))
-    (octets-append (bytes-octets 4 (f .b)) (zero-octets (zero-octets (zero-octets (octets-one 0 (omega arith)))))))))
-
-all-octets : (rs : List program.Record) → Octets (encodeAll rs)
-unfolding encodeAll
-all-octets [] = record { below = λ i. omega arith }
-all-octets (r ∷ rs) = octets-append (laid-octets (fieldsOf r)) (all-octets rs)
-
-program-octets : (r : Reading) → Octets (programOf r)
-program-octets r = all-octets (records r)
-
--- a tally that isn't full
-abbrev none-seen : Tally
-none-seen = tally 0 0 0 0
-
-room-to-count : FullTally (some none-seen) → ⊥
-unfolding isFull
-room-to-count f = never (tally-complete f)
-
-abbrev tally-of : Judging → Option Tally
-tally-of j = j .tally
-
-abbrev seen-of : Option Tally → ℕ
-seen-of none = 0
-seen-of (some t) = t .seen
-
-module _ {Verdict : Message → Reading → Type 0} {text : List ℕ} {r : Reading} {count : ℕ} (t : TextOnR Verdict text r count) (few : weight r ≤ 2) where
-  -- a sample compiles
-  compiles : Compiles text (length buffer)
-  compiles = compiled-compiles (t .compiles (length buffer) (omega arith))
-
-  -- so a compiler for which demand 3 holds compiles it
-  number-is : (compiler : Compiler) (judge : Judge) → DemandThree compiler judge → compiler text buffer .number ≡ 0
-  number-is compiler judge d = d text buffer [] [] none .compiles .1 compiles
-
-  -- into the program of its reading
-  records-are : (compiler : Compiler) (judge : Judge) → DemandThree compiler judge
-      → (compiler text buffer .value ≡ length (programOf r)) × (compiler text buffer .buffer ≡ programOf r ++ drop (length (programOf r)) buffer)
-  records-are compiler judge d = d text buffer [] [] none .records (number-is compiler judge d) (t .derives .derived)
-
-  -- and reports that program's bytes
-  reported-are : (compiler : Compiler) (judge : Judge) → DemandThree compiler judge → reported (compiler text buffer) ≡ programOf r
-  reported-are compiler judge d =
-      let x = records-are compiler judge d in
-      rw (x .0, x .1) (take-at (programOf r) (drop (length (programOf r)) buffer) (length (programOf r)) refl)
-
-  module _ (compiler : Compiler) (judge : Judge) where
-    -- what is claimed of judging R with it, where another judge shows that the compiler compiles as demand 3 has it
-    on-R : (other : Judge) (runner : Runner) → DemandThree compiler other → DemandTwo compiler judge runner → (lines : List ℕ)
-        → OnMessage r messageR lines (judge (reported (compiler text buffer)) recordR lines none)
-    on-R other runner c d lines = d .on-message {buffer = buffer} (number-is compiler other c) (t .derives .derived) record-represents lines none uncounted
-
-    -- and of its steps
-    steps-on-R : DemandThree compiler judge → JudgedSo r messageR room none (compiler text buffer) (judge (reported (compiler text buffer)) recordR room none)
-    steps-on-R d =
-        let e : compiler text buffer .number ≡ 0 = number-is compiler judge d in
-        rw (eq-eqb _ _ e) at (d text buffer recordR room none .judged e (t .derives .derived) record-represents)
-
--- judging R with `-loops` drops it
-loops-drop : judgeOf (programOf (test hasLoop)) recordR 0 (some none-seen) ≡ dropped (steps (isTrue messageR) (test hasLoop))
-loops-drop =
-    reading-judged (test hasLoop) (reads-possible (loops .derives .derived .reads)) (omega (arith, few-loops)) record-represents room-to-count 0
-    (steps-on-R loops few-loops ourCompiler ourJudge demand-three .drops .1 (loops .verdict))
+use Rattle.claims.proofs.SamplesOnR.{room, room-enough, first-blank, none-seen, few-loops, few-bogon, few-not, uncounted, number-is, reported-are, on-R, steps-on-R, loops-drop}
 
 -- ---- compilers
 
@@ -178,6 +57,13 @@ module _ (compiler : Compiler) (judge : Judge) where
       only t few = sym (wrong _ _ (number-is t few compiler judge d)) ∙ reported-are t few compiler judge d
 
 -- ---- judges
+
+abbrev tally-of : Judging → Option Tally
+tally-of j = j .tally
+
+abbrev seen-of : Option Tally → ℕ
+seen-of none = 0
+seen-of (some t) = t .seen
 
 -- beside a compiler that compiles as demand 3 has it
 module _ (compiler : Compiler) (other judge : Judge) (runner : Runner) (c : DemandThree compiler other) where

@@ -2,6 +2,7 @@ pub mod Answers
 pub mod Codes
 pub mod LayoutLaws
 pub mod MachineLaws
+pub mod ProgramOctets
 pub mod ReadingValid
 pub mod RightLaws
 pub mod Valid

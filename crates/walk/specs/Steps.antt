@@ -1,12 +1,20 @@
 -- The walk: its steps over lent bytes.
 use Prim.Native.Nat.{ℕ, zero, suc, _+_, _-_}
 use mathlib.Core.List.{List, [], _∷_}
-use lib.ListN.{length, take, drop}
+use lib.ListN.{length}
 use lib.Dec.{leb, ltb}
 use Rattle.octets.specs.Choice.{pick}
 use Rattle.octets.specs.Header.{headerSize, lengthAt}
+use Rattle.octets.specs.Parts.{partAt}
 use Rattle.walk.specs.declared.Step.{Step}
 use Rattle.walk.specs.declared.Step.the-variants.{Record, Done, Cut}
+
+-- the answer that closes a walk: done, or cut with the bytes left
+abbrev pub closingOf : List ℕ → Step
+closingOf [] = Done
+closingOf (b ∷ rest) = Cut (length (b ∷ rest))
+
+-- ---- what the code computes
 
 -- what stands at a place: nothing more; a cut record with the bytes left; or a record with its place and length
 unfoldable pub stepAt : List ℕ → ℕ → Step
@@ -18,7 +26,7 @@ stepAt s at =
 
 -- the record that a step hands out
 abbrev pub recordOf : List ℕ → Step → List ℕ
-recordOf s (Record start len) = take len (drop start s)
+recordOf s (Record start len) = partAt s start len
 recordOf s Done = []
 recordOf s (Cut left) = []
 
@@ -35,8 +43,3 @@ placeOf s (suc k) = placeAfter (stepAt s (placeOf s k)) (placeOf s k)
 
 abbrev pub stepOf : List ℕ → ℕ → Step
 stepOf s k = stepAt s (placeOf s k)
-
--- the answer that closes a walk: done, or cut with the bytes left
-abbrev pub closingOf : List ℕ → Step
-closingOf [] = Done
-closingOf (b ∷ rest) = Cut (length (b ∷ rest))

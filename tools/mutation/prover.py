@@ -1,0 +1,176 @@
+"""Runs the prover over a changed copy of a crate, and sorts what it says."""
+import os
+import platform
+import re
+import shutil
+import signal
+import subprocess
+import tempfile
+import time
+from pathlib import Path
+
+KIT = Path(os.environ.get("RATTLE_HOME", "/opt/rattle"))
+OWN = KIT / "on" / platform.machine()
+
+# The proof file names a part that isn't asked for, or one that is asked for stands elsewhere.
+UNFIT = re.compile(
+    r"has no `[^`]*` that can be named from here|this pattern needs a function|expected type `tie\.Need-[^`]*`, but this has type `tie\.Need-"
+    r"|is not a field of record|has no field|is not in scope|explicit arguments? but the pattern gives|is not a constructor"
+)
+# Follows from another error.
+WAKE = re.compile(r"was not admitted|so this cannot be checked")
+
+
+class Limits:
+    def __init__(self, seconds, mebibytes):
+        self.seconds, self.mebibytes = seconds, mebibytes
+
+
+def dependencies(root, crate):
+    for line in (root / "crates.txt").read_text().splitlines():
+        name, _, deps = line.partition(":")
+        if name == crate:
+            return deps.split()
+    raise SystemExit(f"crates.txt has no crate {crate}")
+
+
+def behind(root, crate):
+    """The crates that depend on one, in order."""
+    found = []
+    for line in (root / "crates.txt").read_text().splitlines():
+        name, _, deps = line.partition(":")
+        if crate in deps.split() or set(found) & set(deps.split()):
+            found.append(name)
+    return found
+
+
+def command(root, crate, folder, words):
+    source = folder / "src" / "lib.rt"
+    if not source.exists():
+        source = folder / "src" / "main.rt"
+    line = [OWN / "bin" / "rattle", "check", "--crate-name", crate, source, "--extern", f"std={OWN}/rlib/std.rlib"]
+    for name in dependencies(root, crate):
+        home = root / "target" / "rlib" if (root / "crates" / name).is_dir() else OWN / "rlib"
+        line += ["--extern", f"{name}={home}/{name}.rlib"]
+    line += ["-L", f"dependency={root}/target/rlib", "-L", f"dependency={OWN}/rlib"]
+    line += ["--antt-project", KIT / "logic" / "antt-project.json", "--logic-built", OWN / "logic-built", *words]
+    return [str(word) for word in line]
+
+
+def resident(pid):
+    try:
+        pages = int(Path(f"/proc/{pid}/statm").read_text().split()[1])
+    except (OSError, IndexError):
+        return 0
+    return pages * os.sysconf("SC_PAGE_SIZE") // 1048576
+
+
+def checked(root, crate, folder, words, limits):
+    """The prover's exit status and output; the status is None where it passed a limit."""
+    log = folder / ".log"
+    with log.open("wb") as out:
+        run = subprocess.Popen(command(root, crate, folder, words), stdout=out, stderr=subprocess.STDOUT, start_new_session=True)
+        end = time.monotonic() + limits.seconds
+        while run.poll() is None:
+            if time.monotonic() > end or resident(run.pid) > limits.mebibytes:
+                os.killpg(run.pid, signal.SIGKILL)
+                run.wait()
+                return None, log.read_text(errors="replace")
+            time.sleep(0.05)
+    return run.returncode, log.read_text(errors="replace")
+
+
+def errors_of(log):
+    """The errors that don't follow from another, each (file, what is refused, message)."""
+    found = []
+    for m in re.finditer(r"^(\S+?):\d+:\d+: error: (.*(?:\n  .*)*)", log, re.M):
+        if not WAKE.search(m.group(2)):
+            found.append((m.group(1), (re.match(r"`([^`]*)`", m.group(2)) or [None, ""])[1], m.group(2)))
+    return found
+
+
+def sorted_out(status, log):
+    """The result of a check, and the first part that it refused."""
+    if status is None:
+        return "time", ""
+    if status == 0:
+        return "accepted", ""
+    found = errors_of(log)
+    if "logic=not-proved" not in log or any(file.startswith("specs/") for file, _, _ in found):
+        return "ill", ""
+    unfit = any(UNFIT.search(message) for _, _, message in found)
+    first = next((f"{file} {part}".strip() for file, part, message in found if UNFIT.search(message) or not unfit), "")
+    return "unfit" if unfit else "fact", first
+
+
+class Whole:
+    """Changed copies of one crate, each proved whole."""
+
+    def __init__(self, root, crate, work, limits, logs=None):
+        self.root, self.crate, self.work, self.limits, self.logs = root, crate, work / crate, limits, logs
+
+    def folder(self, label):
+        """A copy of the crate, made once for each label."""
+        place = self.work / label
+        if not place.exists():
+            place.mkdir(parents=True)
+            for part in ("src", "specs", "proofs"):
+                if (self.root / "crates" / self.crate / part).is_dir():
+                    shutil.copytree(self.root / "crates" / self.crate / part, place / part)
+        return place
+
+    def run(self, label, file, text):
+        """What the prover says where a file of the crate has this text: its status and output."""
+        place = self.folder(label)
+        before = (place / file).read_text()
+        (place / file).write_text(text)
+        status, log = checked(self.root, self.crate, place, self.words(label), self.limits)
+        (place / file).write_text(before)
+        return status, log.replace(f"{place}/", "")
+
+    def words(self, label):
+        return []
+
+    def dependents(self, file, text):
+        """What the crates that depend on this one say of a changed definition, which it proves itself."""
+        with tempfile.TemporaryDirectory() as copy:
+            copy = Path(copy)
+            for name in ("crates", "crates.txt", "target"):
+                subprocess.run(["cp", "-a", self.root / name, copy / name], check=True)
+            (copy / "crates" / self.crate / file).write_text(text)
+            for crate in behind(self.root, self.crate):
+                run = subprocess.run(["rt", "check", crate], cwd=copy, capture_output=True, text=True, errors="replace")
+                if run.returncode != 0:
+                    log = (copy / "target" / "log" / f"{crate}.out").read_text(errors="replace")
+                    result, at = sorted_out(1, log.replace(f"{copy}/crates/{crate}/", ""))
+                    return ("fact" if result == "ill" else result), f"{crate}: {at}"
+        return "accepted", ""
+
+    def keep(self, row, log):
+        if self.logs and row.result != "ill":
+            self.logs.mkdir(parents=True, exist_ok=True)
+            number = len(list(self.logs.iterdir()))
+            (self.logs / f"{number:05}.{row.result}.log").write_text(f"{row}\n{log}")
+
+
+class Bench(Whole):
+    """Changed copies, each proved over what an unchanged check keeps: only what the change reaches is checked."""
+
+    def __init__(self, root, crate, work, limits, logs=None):
+        super().__init__(root, crate, work, limits, logs)
+        self.kept = self.work / "unchanged.kept"
+        status, log = checked(root, crate, self.folder("unchanged"), ["--incremental", self.kept], limits)
+        if status != 0:
+            raise SystemExit(f"{crate} isn't proved as it stands:\n{log[-2000:]}")
+
+    def words(self, label):
+        copy = self.work / f"{label}.kept"
+        if not copy.exists():
+            # the prover writes new files and changes none, so links do
+            shutil.copytree(self.kept, copy, copy_function=os.link)
+        return ["--incremental", copy]
+
+    def forget(self, label):
+        """Removes what a label has: an item's mutants share one, since each checks the same parts again."""
+        shutil.rmtree(self.work / label, ignore_errors=True)
+        shutil.rmtree(self.work / f"{label}.kept", ignore_errors=True)
