@@ -13,12 +13,14 @@ def tokens_of(text, start, end):
 
 
 def items_of(text):
-    """The declarations of a file, each up to the blank line or the comment behind it."""
+    """The declarations of a file, each up to the blank line behind it; public are the words, above what the code computes."""
     items = []
+    words = text.find("---- what the code computes")
     for block in re.finditer(r"(?:^(?!use |--)\S.*\n(?:^(?:[ ]+.*|\S.*)\n)*)", text, re.M):
         head = HEAD.match(block.group())
         if head and not block.group().startswith(("use ", "module ")):
-            items.append(Item(head.group(2), True, block.start(), tokens_of(text, block.start(), block.end())))
+            public = words < 0 or block.start() < words
+            items.append(Item(head.group(2), public, block.start(), tokens_of(text, block.start(), block.end())))
     return items
 
 
