@@ -21,23 +21,23 @@ use Rattle.aspath.proofs.Segments.{Stands, stands-size, size-stands, se
 
 module _ (w : ℕ) where
   -- where no segment stands, there are no members
-  pub members-none : (l : List ℕ) → segmentSize w l ≡ 0 → membersOf w l ≡ []
+  members-none : (l : List ℕ) → segmentSize w l ≡ 0 → membersOf w l ≡ []
   unfolding members
   members-none l z = rw (items-end (segmentSize w) (segmentOf w) l z) refl
 
   -- from the end on there are none
-  pub members-past : (s : List ℕ) (at : ℕ) → length s ≤ at → membersOf w (drop at s) ≡ []
+  members-past : (s : List ℕ) (at : ℕ) → length s ≤ at → membersOf w (drop at s) ≡ []
   members-past s at h = members-none (drop at s) (omega (arith, segment-sizes w .fits (drop at s), length-drop at s))
 
   -- where one stands, the members are its numbers and those after it
-  pub members-next : (l : List ℕ) → (segmentSize w l ≡ 0 → ⊥)
+  members-next : (l : List ℕ) → (segmentSize w l ≡ 0 → ⊥)
       → membersOf w l ≡ numbersIn w (getD l 1 0) (drop 2 l) ++ membersOf w (drop (segmentSize w l) l)
   unfolding members segmentOf
   members-next l n = rw (items-next (segmentSize w) (segmentOf w) (segment-sizes w) l n) refl
 
 module _ (w : ℕ) (s : List ℕ) where
   -- where all the numbers asked for are there, none is left out
-  pub numbers-all : (n at : ℕ) → at + n * w ≤ length s → numbersIn w n (drop at s) ≡ numbersFrom w s at n
+  numbers-all : (n at : ℕ) → at + n * w ≤ length s → numbersIn w n (drop at s) ≡ numbersFrom w s at n
   unfolding numbersIn numbersFrom
   numbers-all zero at h = refl
   numbers-all (suc n) at h =

@@ -1,3 +1,4 @@
+-- Laws of AS paths. Assumes nothing.
 pub mod Cursors
 pub mod MeaningBogons
 pub mod MeaningLoops

@@ -124,13 +124,3 @@ loop-at n (m ∷ ms) (suc i) (suc k) (suc j) a b h x y f =
 -- and no loop is missed
 pub loop-complete : {path : List Member} → Loop path → hasLoop path ≡ true
 loop-complete {path} o = loop-at (o .n) path (o .i) (o .k) (o .j) (o .before) (o .after) (o .within) (o .leaves) (o .returns) (o .away)
-
--- a number that stands twice side by side is no loop
-pub no-prepending : hasLoop (1 ∷ 1 ∷ 2 ∷ []) ≡ false
-unfolding hasLoop returnsIn
-no-prepending = refl
-
--- one that comes back after another is
-pub coming-back : hasLoop (1 ∷ 2 ∷ 1 ∷ []) ≡ true
-unfolding hasLoop returnsIn
-coming-back = refl

@@ -11,7 +11,8 @@ use Rattle.octets.specs.Rows.{Joined, none, more}
 use Rattle.octets.proofs.Bytes.{octets-drop}
 use Rattle.octets.proofs.Fields.{field-sound, field-same}
 use Rattle.aspath.specs.Wire.{numbersIn}
-use Rattle.octets.proofs.Encode.{joined-length, total-same}
+use Rattle.octets.proofs.Every.{total-same}
+use Rattle.octets.proofs.Items.{joined-length}
 
 -- as many numbers are read as were asked for
 pub numbers-length : (w n : ℕ) (l : List ℕ) → length (numbersIn w n l) ≡ n

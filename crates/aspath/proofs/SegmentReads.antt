@@ -1,6 +1,5 @@
 -- Segments are read back from their bytes, those read are what the bytes say, and just the encodable ones have bytes. Assumes nothing.
 use Prim.Native.Nat.{ℕ, _+_, _*_, _≤_}
-use native.Mathlib.Nat.{add-mul}
 use native.Mathlib.Omega.{arith}
 use mathlib.Core.Path.{_≡_, refl, ap, _∙_}
 use mathlib.Core.List.{List, [], _∷_, _++_}
@@ -14,11 +13,12 @@ use Rattle.octets.specs.Lists.{Every, total}
 use Rattle.octets.specs.Rows.{Joined}
 use Rattle.octets.proofs.Bytes.{octets-drop}
 use Rattle.octets.proofs.Rows.{Reads, items-cost}
-use Rattle.aspath.specs.Members.{Kind, set, sequence, Segment, members}
+use Rattle.aspath.specs.Members.{Kind, set, sequence, Segment}
 use Rattle.aspath.specs.Encodable.{segmentCost, EncodableSegment}
 use Rattle.aspath.specs.Wire.{kindCode, SegmentBytes, segmentSize, segmentOf, segmentsOf}
 use Rattle.octets.proofs.Fields.{field-below}
-use Rattle.octets.proofs.Encode.{bytes-field, joined-exist, joined-length, joined-every}
+use Rattle.octets.proofs.Encode.{bytes-field}
+use Rattle.octets.proofs.Items.{joined-exist, joined-length, joined-every}
 use Rattle.aspath.proofs.Segments.{Stands, stands-size, size-stands, segment-sizes}
 use Rattle.aspath.proofs.NumberReads.{numbers-length, numbers-bytes, numbers-same, numbers-sound}
 
@@ -36,7 +36,7 @@ kind-sound (inl e) = rw e refl
 kind-sound (inr e) = rw e refl
 
 -- the bytes of a segment are as many as its numbers ask for
-pub segment-length : (w : ℕ) {s : Segment} {bytes : List ℕ} → SegmentBytes w s bytes → length bytes ≡ segmentCost w s
+segment-length : (w : ℕ) {s : Segment} {bytes : List ℕ} → SegmentBytes w s bytes → length bytes ≡ segmentCost w s
 segment-length w x = ap length (x .joined) ∙ omega (arith, numbers-bytes w (x .numbers))
 
 -- and so are those of segments one after another
@@ -93,13 +93,6 @@ segment-reads w = record {
   same = λ x rest. segment-same w x rest;
   sound = segment-sound w;
 }
-
--- segments have two bytes each, and w for each number
-pub members-bytes : (w : ℕ) (ss : List Segment) → total (segmentCost w) ss ≡ 2 * length ss + length (members ss) * w
-unfolding total members
-members-bytes w [] = omega arith
-members-bytes w (s ∷ ss) =
-    simp length-append (omega (arith, members-bytes w ss, add-mul (length (s .numbers)) (length (members ss)) w))
 
 -- the segments of a body have no more bytes than it has
 pub members-count : (w : ℕ) (l : List ℕ) → total (segmentCost w) (segmentsOf w l) ≤ length l

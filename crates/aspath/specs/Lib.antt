@@ -1,3 +1,4 @@
+-- What AS paths are: their bytes, their members, and what the tests of them mean.
 pub mod Members
 pub mod Wire
 pub mod Encodable

@@ -16,8 +16,8 @@ use Rattle.attributes.specs.Encodable.{bodyCost, withHeader, attributeCo
 use Rattle.attributes.specs.Wire.{Raw}
 use Rattle.attributes.specs.Bodies.{HasBody, AttributeBytes}
 use Rattle.octets.proofs.Fields.{field-below}
-use Rattle.octets.proofs.Encode.{bytes-field, octets-one, joined-every}
-use Rattle.octets.proofs.Items.{joined-octets, sized-exist}
+use Rattle.octets.proofs.Encode.{bytes-field, octets-one}
+use Rattle.octets.proofs.Items.{joined-octets, joined-every, sized-exist}
 use Rattle.attributes.proofs.RawReads.{raw-short, raw-least, raw-exists}
 
 code-below : (w : ℕ) (a : Attribute) → EncodableAttribute w a → codeOf a < 256
@@ -41,7 +41,7 @@ kind-below set = omega arith
 kind-below sequence = omega arith
 
 -- the bytes of a segment are bytes
-pub segment-octets : {w : ℕ} {s : Segment} {bytes : List ℕ} → SegmentBytes w s bytes → Octets bytes
+segment-octets : {w : ℕ} {s : Segment} {bytes : List ℕ} → SegmentBytes w s bytes → Octets bytes
 segment-octets {w} {s} x =
     rw (x .joined)
     (octets-append (octets-one (kindCode (s .kind)) (kind-below (s .kind)))
@@ -59,7 +59,7 @@ module _ (w : ℕ) where
   body-exists (other code body) h = (body, (h .0, refl), h .2, refl)
 
   -- an encodable attribute has bytes
-  pub attribute-exists : (a : Attribute) → EncodableAttribute w a → (bytes : List ℕ) × AttributeBytes w a bytes × (length bytes ≡ attributeCost w a)
+  attribute-exists : (a : Attribute) → EncodableAttribute w a → (bytes : List ℕ) × AttributeBytes w a bytes × (length bytes ≡ attributeCost w a)
   attribute-exists a h = go (body-exists a h)
     where
       go : (body : List ℕ) × HasBody w a body × Octets body × (length body ≡ bodyCost w a)

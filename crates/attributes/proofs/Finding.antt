@@ -20,7 +20,7 @@ module _ (code : ℕ) where
   none-found (suc f) at l z = simp (eq-eqb _ _ z)
 
   -- the bound on the attributes doesn't matter where it is at least the number of bytes
-  pub find-fuel : (f g at : ℕ) (l : List ℕ) → length l ≤ f → length l ≤ g → findIn f code at l ≡ findIn g code at l
+  find-fuel : (f g at : ℕ) (l : List ℕ) → length l ≤ f → length l ≤ g → findIn f code at l ≡ findIn g code at l
   unfolding findIn
   find-fuel zero g at l h k = sym (none-found g at l (omega (arith, attribute-sizes .fits l)))
   find-fuel (suc f) zero at l h k = none-found (suc f) at l (omega (arith, attribute-sizes .fits l))

@@ -1,3 +1,4 @@
+-- Laws of path attributes. Assumes nothing.
 pub mod AttributesExist
 pub mod ByCode
 pub mod Distinct

@@ -39,7 +39,7 @@ module _ (code : ℕ) (s : List ℕ) where
       go (no n) (no c) ih = simp (ne-eqb _ _ n, ne-eqb _ _ c, drop-drop) ih
 
   -- what is found is the first body with the code
-  pub find-body : bodyAt s (findOf code s) ≡ firstBody code (rawsOf s)
+  find-body : bodyAt s (findOf code s) ≡ firstBody code (rawsOf s)
   find-body = body-in (length s) 0
 
 -- whether an answer is a place
@@ -77,7 +77,7 @@ pub record Asks {A : Type 0} (w : ℕ) (ask : Attribute → Option A) (give : Li
 
 module _ {A : Type 0} {w : ℕ} {ask : Attribute → Option A} {give : List ℕ → A} {code : ℕ} (asks : Asks w ask give code) where
   -- it is answered by the first body with the code
-  pub first-said : (raws : List Raw) → firstOf ask (map (said w) raws) ≡ Option·map give (firstBody code raws)
+  first-said : (raws : List Raw) → firstOf ask (map (said w) raws) ≡ Option·map give (firstBody code raws)
   unfolding firstOf firstBody
   first-said [] = refl
   first-said (r ∷ raws) = rw (asks .answers r, first-said raws) (go (eqb (r .code) code))

@@ -82,7 +82,7 @@ none-marked n c =
     zeros (suc n) (suc i) = zeros n i
 
 -- the words with the bit of a code set as well
-abbrev pub marking : List ℕ → ℕ → List ℕ
+abbrev marking : List ℕ → ℕ → List ℕ
 marking seen c = set seen (c / 64) (getD seen (c / 64) 0 + 2 ^ (c % 64))
 
 -- they mark that code as well

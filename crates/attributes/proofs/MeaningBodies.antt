@@ -22,7 +22,7 @@ use Rattle.attributes.proofs.ByCode.{by-code, said-other, right-other}
 -- ---- all bodies are bytes
 
 -- a raw attribute's body is bytes
-abbrev pub OctetBody : Raw → Type 0
+abbrev OctetBody : Raw → Type 0
 OctetBody r = Octets (r .body)
 
 -- the raw attributes of bytes have bytes for bodies

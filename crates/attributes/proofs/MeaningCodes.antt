@@ -19,7 +19,7 @@ pub record Occurs (k : ℕ) (cs : List ℕ) : Type 0 where
   pub same : getD cs j 0 ≡ k
 
 -- a code that was found stands somewhere
-pub elem-sound : (k : ℕ) (cs : List ℕ) → elem k cs ≡ true → Occurs k cs
+elem-sound : (k : ℕ) (cs : List ℕ) → elem k cs ≡ true → Occurs k cs
 unfolding elem
 elem-sound k [] e = never e
 elem-sound k (c ∷ cs) e = go (ℕ-discrete c k) (elem-sound k cs)

@@ -99,7 +99,7 @@ raw-octets {r} x =
 -- ---- the raw attributes that have bytes
 
 -- the fewest bytes of a raw attribute
-abbrev pub rawSize : Raw → ℕ
+abbrev rawSize : Raw → ℕ
 rawSize r = withHeader (length (r .body))
 
 module _ {r : Raw} {bytes : List ℕ} (x : RawBytes r bytes) where

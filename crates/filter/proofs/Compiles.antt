@@ -43,7 +43,9 @@ use Rattle.filter.specs.declared.Compiled.the-variants.{Program, Refused
 use Rattle.filter.proofs.Walks.{no-ok}
 use Rattle.filter.proofs.Places.{place-left}
 use Rattle.filter.proofs.Steps.{ready-first, run-none, end-none}
-use Rattle.filter.proofs.Parts.{start-here, read-ready, unfinished}
+use Rattle.filter.proofs.ReadyTokens.{start-here}
+use Rattle.filter.proofs.Parts.{read-ready}
+use Rattle.filter.proofs.Factors.{unfinished}
 
 -- ---- what `parse` promises
 

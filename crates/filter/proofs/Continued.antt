@@ -5,10 +5,9 @@ use native.Mathlib.Nat.{zero-add}
 use mathlib.Core.Path.{_≡_, refl}
 use mathlib.Core.List.{List, _∷_, _++_}
 use lib.ListN.{length}
-use Rattle.octets.specs.Lists.{every-none, every-more}
-use Rattle.octets.specs.Lists as list
+use Rattle.octets.specs.Lists.{Every, every-none, every-more}
 use Rattle.program.specs.Readings.{Reading}
-use Rattle.token.specs.Texts.{space, Allowed, Every, more}
+use Rattle.token.specs.Texts.{space, Allowed}
 use Rattle.token.specs.Tokens.{word, Placed, Lexes, blanks}
 use Rattle.token.proofs.Lexing.{lexes-append}
 use Rattle.operand.specs.declared.Name.{Name}
@@ -35,7 +34,7 @@ pub record Continued (text : List ℕ) (ps : List Placed) : Type 0 where
   pub reads : Reads expression (bare (ps ++ tokens)) reading
 
 -- the tokens that bring a state to the end of a text can be written
-closers-proper : {p : Part} (h : Hole p) → list.Every Proper (closers h)
+closers-proper : {p : Part} (h : Hole p) → Every Proper (closers h)
 unfolding closers
 closers-proper whole = every-none
 closers-proper (grouping h) = every-more tt (closers-proper h)
@@ -54,7 +53,7 @@ sample-proper peerName = (omega arith, wordly-sound (sampleText peerName) refl)
 sample-proper timeName = (omega arith, wordly-sound (sampleText timeName) refl)
 sample-proper (networkName r) = (omega arith, wordly-sound (sampleText (networkName r)) refl)
 
-closing-proper : (s : State) → list.Every Proper (closing s)
+closing-proper : (s : State) → Every Proper (closing s)
 unfolding closing
 closing-proper (want h) = let w = said-written loops-said in every-more {a = word loopsWord} (w .some, w .bytes) (closers-proper h)
 closing-proper (operand k h) = every-more (sample-proper k) (closers-proper h)
@@ -71,7 +70,7 @@ alive-written {text} {ps} l a = by-walk (alive-reached 0 (bare ps) a)
           bytes = 32 ∷ spell (closing s);
           tokens = positioned (suc (length text)) (closing s);
           reading = d .0;
-          allowed = more (seen 32 (omega arith) (omega arith)) (spell-allowed (closing-proper s));
+          allowed = every-more (seen 32 (omega arith) (omega arith)) (spell-allowed (closing-proper s));
           lexed = lexes-append l space-stops (rw (zero-add (length text)) (blanks space (spell-lexes (closing-proper s) (suc (length text)))));
           reads = rw (bare-append ps (positioned (suc (length text)) (closing s)), bare-positioned (suc (length text)) (closing s)) (d .1);
         }

@@ -10,14 +10,14 @@ use borrow.Author.Tests.{leb-true}
 use Rattle.octets.specs.Choice.{pick}
 use Rattle.octets.specs.Decimal.{Decimal, digit}
 use Rattle.octets.specs.Decimal as octets
+use Rattle.octets.specs.Lists.{Every, every-none, every-more}
 use Rattle.octets.proofs.Choices.{either, each}
 use Rattle.octets.proofs.Decimal.{digits-length}
 use Rattle.octets.proofs.Decimal as law
+use Rattle.octets.proofs.Every.{every-append}
 use Rattle.network.specs.Text.{addressText}
-use Rattle.token.specs.Texts.{Every, none, more}
 use Rattle.operand.specs.Decimals.{Below}
 use Rattle.operand.specs.Addresses.{Address}
-use Rattle.operand.proofs.FrontReads.{run-append}
 use Rattle.filter.proofs.Spelling.{Plain}
 
 -- ---- bytes that may stand in an operand
@@ -32,7 +32,7 @@ abbrev pub isPlain : ℕ → Bool
 isPlain b = pick (pick (leb 32 b) (leb b 38) false) true (pick (leb 40 b) (leb b 126) false)
 
 -- what passes it is plain
-pub plain-sound : (b : ℕ) → isPlain b ≡ true → Plain b
+plain-sound : (b : ℕ) → isPlain b ≡ true → Plain b
 plain-sound b e = either (pick (leb 32 b) (leb b 38) false) (pick (leb 40 b) (leb b 126) false) e low high
   where
     low : pick (leb 32 b) (leb b 38) false ≡ true → Plain b
@@ -55,15 +55,15 @@ digit-plain d h = record { low = omega arith; high = omega arith; no-quote = λ 
 
 -- no bytes
 pub nothing : Quotable 0 []
-nothing = record { plain = none; short = omega arith }
+nothing = record { plain = every-none; short = omega arith }
 
 -- a byte before others
 pub before : {n : ℕ} (b : ℕ) {bs : List ℕ} → isPlain b ≡ true → Quotable n bs → Quotable (suc n) (b ∷ bs)
-before b e x = record { plain = more (plain-sound b e) (x .plain); short = omega (arith, x .short) }
+before b e x = record { plain = every-more (plain-sound b e) (x .plain); short = omega (arith, x .short) }
 
 -- joined bytes
 pub join : {m n : ℕ} {xs ys : List ℕ} → Quotable m xs → Quotable n ys → Quotable (m + n) (xs ++ ys)
-join {xs = xs} {ys} x y = record { plain = run-append (x .plain) (y .plain); short = omega (arith, length-append xs ys, x .short, y .short) }
+join {xs = xs} {ys} x y = record { plain = every-append (x .plain) (y .plain); short = omega (arith, length-append xs ys, x .short, y .short) }
 
 -- with a larger bound
 pub shorter : {m : ℕ} (n : ℕ) {bs : List ℕ} → m ≤ n → Quotable m bs → Quotable n bs
@@ -77,8 +77,8 @@ decimal-is limit n h w = record { decimal = law.decimal-is n w; below = h }
 
 -- digits can be quoted
 decimal-plain : {bs : List ℕ} {n : ℕ} → Decimal bs n → Every Plain bs
-decimal-plain (digit d h) = more (digit-plain d h) none
-decimal-plain (octets.more d x m h e) = rw e (run-append (decimal-plain x) (more (digit-plain d h) none))
+decimal-plain (digit d h) = every-more (digit-plain d h) every-none
+decimal-plain (octets.more d x m h e) = rw e (every-append (decimal-plain x) (every-more (digit-plain d h) every-none))
 
 -- ten at most
 pub decimal-quotable : (n : ℕ) → n < 2 ^ 32 → Quotable 10 (octets.decimal n)

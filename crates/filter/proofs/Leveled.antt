@@ -10,12 +10,11 @@ use lib.Dec.{ltb}
 use borrow.Author.Tests.{ltb-true}
 use Rattle.program.specs.Readings.{Test, and, or, Reading, test, neg}
 use Rattle.token.specs.Tokens.{Token, open′, close, bang, word, quoted}
-use Rattle.filter.specs.Words.{Role, joins, flag, name}
+use Rattle.filter.specs.Words.{Role, joins, flag, name, roleOf}
 use Rattle.filter.specs.Grammar.{expression, conjunction, factor}
 use Rattle.filter.specs.Reader.{Hole, whole, grouping, first, oring, head, anding, negating, depth, State, want, operand, have, level, Move, takes, opens, stuck, breaks, came, settle, outer, again, leave, begin, fill, join, admit, follow, move, step, walk}
 use Rattle.filter.proofs.Walks.{no-came}
 use Rattle.operand.specs.Tests.{meaning}
-use Rattle.filter.specs.Words.{roleOf}
 use Rattle.filter.specs.Answers.{Opener, a-group, a-bang}
 
 -- the levels after a move, by those before it

@@ -1,3 +1,4 @@
+-- Laws of filters. Assumes nothing.
 pub mod Agree
 pub mod Answered
 pub mod CompiledValid
@@ -7,6 +8,7 @@ pub mod Continued
 pub mod Counts
 pub mod DecimalTexts
 pub mod Endings
+pub mod Factors
 pub mod GivenPossible
 pub mod Leveled
 pub mod Located
@@ -15,13 +17,16 @@ pub mod Operands
 pub mod Overlay
 pub mod Parts
 pub mod Places
+pub mod ReadyTokens
 pub mod Refusals
 pub mod RefusedTexts
 pub mod Roles
 pub mod Sayings
+pub mod Sides
 pub mod Sound
 pub mod Spelling
 pub mod Steps
+pub mod TestOperands
 pub mod Tests
 pub mod TokenBytes
 pub mod Walks

@@ -84,7 +84,7 @@ module _ (L : ℕ) where
       by-side false q = beyond ts us w s x y n (leb-false _ _ q) e m (g (leb-false _ _ q))
 
   -- the claim of a part, in its hole, at a place; `in-..` proves it of each rule from its parts
-  abbrev pub Inside : {p : Part} {ts : List Token} {r : Reading} → Reads p ts r → Hole p → ℕ → Type 0
+  abbrev Inside : {p : Part} {ts : List Token} {r : Reading} → Reads p ts r → Hole p → ℕ → Type 0
   Inside {p} {ts} d h n = Located L (enter p h) (take n ts) (depth h + openAt d n)
 
   in-flagged : {w : Word} {x : Test} (q : Says w (flag x)) (h : Hole factor) (n : ℕ) → n < 1 → Inside (flagged q) h n

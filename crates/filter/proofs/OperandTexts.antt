@@ -7,6 +7,7 @@ use mathlib.Core.List.{List, [], _∷_, _++_, nil≢cons}
 use lib.ListN.{length, replicate, length-replicate}
 use Rattle.octets.specs.Choice.{pick}
 use Rattle.octets.specs.Decimal.{decimal}
+use Rattle.octets.specs.Lists.{Every, every-none, every-more}
 use Rattle.network.specs.declared.Network.{Network}
 use Rattle.network.specs.declared.Relation.{Relation}
 use Rattle.network.specs.Text.{addressText}
@@ -15,7 +16,7 @@ use Rattle.aspath.specs.declared.Item.the-variants.{Number, Other, Any}
 use Rattle.aspath.specs.Patterns.{Pattern}
 use Rattle.program.specs.Readings.{Peer, byAs, byAddress, byBoth, Side, eitherSide, announced, withdrawn, Comparison, equal, below, atMost, above, atLeast, Test, typeIs, hasAttribute, pathMatches, peerIs, networkIs, timeIs}
 use Rattle.program.specs.Records.{Code, ItemPossible, PeerPossible, NetworkPossible, PathPossible, TimePossible, weightLimit}
-use Rattle.token.specs.Texts.{space, Every, none, more}
+use Rattle.token.specs.Texts.{space}
 use Rattle.operand.specs.declared.Name.{Name}
 use Rattle.operand.specs.declared.Name.the-variants.{Network as networkName}
 use Rattle.operand.specs.Decimals.{Digits, end}
@@ -29,6 +30,7 @@ use Rattle.operand.specs.Patterns.{ItemText, a-number, not-it, any, ItemsText, 
 use Rattle.operand.specs.Patterns as patterns
 use Rattle.operand.specs.Times.{ComparisonText, unsigned, less, at-most, greater, at-least, FractionText, fraction}
 use Rattle.operand.specs.Tests.{StandsFor, type, attribute, path, peer, network, time}
+use Rattle.operand.proofs.Samples.{unspaced}
 use Rattle.filter.proofs.Spelling.{Plain}
 use Rattle.filter.proofs.DecimalTexts.{Quotable, isPlain, digit-plain, nothing, before, join, shorter, decimal-is, decimal-quotable, address-is, address-quotable}
 
@@ -101,7 +103,7 @@ pub peer-meant : (p : Peer) → PeerPossible p → Meant (peerIs p)
 peer-meant (byAs n) w = meant (peer (by-as (decimal-is (2 ^ 32) n (w .below) (w .below)))) (decimal-quotable n (w .below)) (omega arith)
 peer-meant (byAddress a) w = meant (peer (by-address (address-is a (w .below)))) (address-quotable a (w .below)) (omega arith)
 peer-meant (byBoth a n) (v, w) =
-    meant (peer (by-both {gap = 32 ∷ []} (address-is a (v .below)) (more space none) (omega arith) (decimal-is (2 ^ 32) n (w .below) (w .below)) refl))
+    meant (peer (by-both {gap = 32 ∷ []} (address-is a (v .below)) (every-more space every-none) (omega arith) (decimal-is (2 ^ 32) n (w .below) (w .below)) refl))
     (join (address-quotable a (v .below)) (before 32 refl (decimal-quotable n (w .below)))) (omega arith)
 
 -- ---- patterns
@@ -115,21 +117,7 @@ mark-quotable false c e = shorter 1 (omega arith) nothing
 pattern-meant : (p : Pattern) {text : List ℕ} → ItemsText text (p .items) → Quotable (2 * weightLimit) text → (p .start ≡ false → p .end ≡ false → p .items ≡ [] → ⊥)
     → Meant (pathMatches p)
 pattern-meant p {text} i q f =
-    meant
-    (path (record {
-      before = [];
-      between = [];
-      text = text;
-      behind = [];
-      after = [];
-      joined = refl;
-      before-blank = none;
-      between-blank = none;
-      behind-blank = none;
-      after-blank = none;
-      items-are = i;
-      not-empty = f;
-    }))
+    meant (path (unspaced p i f))
     (join (mark-quotable (p .start) 94 refl) (join q (join (mark-quotable (p .end) 36 refl) nothing)))
     (omega arith)
 
@@ -144,7 +132,7 @@ dots-items : (n : ℕ) → ItemsText (dots n) (replicate n Any)
 unfolding dots
 dots-items zero = empty
 dots-items (suc zero) = last any
-dots-items (suc (suc n)) = patterns.more {gap = 32 ∷ []} any (more space none) (omega arith) (dots-items (suc n)) refl
+dots-items (suc (suc n)) = patterns.more {gap = 32 ∷ []} any (every-more space every-none) (omega arith) (dots-items (suc n)) refl
 
 -- they can be quoted
 dots-quotable : (n : ℕ) → Quotable (2 * n) (dots n)
@@ -226,8 +214,8 @@ micros-say m h =
 
 -- digits can be quoted
 digits-plain : {n m : ℕ} {bs : List ℕ} → Digits n bs m → Every Plain bs
-digits-plain end = none
-digits-plain (decimals.more d h x) = more (digit-plain d h) (digits-plain x)
+digits-plain end = every-none
+digits-plain (decimals.more d h x) = every-more (digit-plain d h) (digits-plain x)
 
 -- a dot and six digits
 fraction-is : (m : ℕ) → m < 1000000 → FractionText (46 ∷ micros m) m

@@ -95,7 +95,7 @@ stands-reached L {ts} st = by-bang (alive-reached L (st .before ++ (bang ∷ [])
     by-bang (M, x, l, e) = by-split M x l (walk-split M start (st .before) (bang ∷ []) x e)
 
 -- a token that stands as an operand is allowed exactly when it keeps its test's rule
-pub operand-alive : {ts : List Token} {t : Token} (st : Stands ts t) → Alive (ts ++ (t ∷ [])) ↔ ((x : Test) × StandsFor (st .test) (st .bytes) x)
+operand-alive : {ts : List Token} {t : Token} (st : Stands ts t) → Alive (ts ++ (t ∷ [])) ↔ ((x : Test) × StandsFor (st .test) (st .bytes) x)
 unfolding walk
 operand-alive {ts} {t} st = (λ a. forth a (stands-reached 0 st), λ x. back x (stands-reached 0 st))
   where

@@ -52,7 +52,7 @@ has-ends (bad-operand s f) l = broken-dead s f (leads-alive l)
 has-ends (too-deep x o) l = deep-ends o l
 
 -- it has one number: so it doesn't matter in which order they are looked for
-pub has-once : {L : ℕ} {ts : List Token} {t : Token} {m n : ℕ} → Has L ts t m → Has L ts t n → m ≡ n
+has-once : {L : ℕ} {ts : List Token} {t : Token} {m n : ℕ} → Has L ts t m → Has L ts t n → m ≡ n
 has-once (bad-token a s) (bad-token b r) = refl
 has-once (bad-token a s) (bad-operand r f) = absurd (s r)
 has-once (bad-token a s) (too-deep x o) = absurd (a (open-alive o))

@@ -11,7 +11,7 @@ use Rattle.filter.proofs.Refusals.{earlier, has-ends, has-numbered}
 use Rattle.filter.proofs.TokenBytes.{Stood, lexes-stood, every-one, stood-within}
 
 -- the bytes of a token that the text reaches stand at its place
-pub reaches-stood : {text : List ℕ} {ts : List Token} {t : Token} {p : ℕ} → Reaches text ts t p → Stood 0 text (placed p t)
+reaches-stood : {text : List ℕ} {ts : List Token} {t : Token} {p : ℕ} → Reaches text ts t p → Stood 0 text (placed p t)
 reaches-stood {t = t} {p} x = every-one (x .front) (placed p t) (x .back) (lexes-stood (x .lexed))
 
 -- and so it lies within

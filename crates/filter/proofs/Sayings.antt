@@ -10,11 +10,8 @@ use borrow.Author.Tests.{leb-true}
 use Rattle.octets.specs.Choice.{pick}
 use Rattle.octets.specs.Lists.{Every, every-none, every-more}
 use Rattle.octets.proofs.Choices.{each}
-use Rattle.octets.proofs.Every.{every-place}
 use Rattle.network.specs.declared.Relation.the-variants.{Exact, Supernet, Subnet, Related}
 use Rattle.program.specs.Readings.{hasBogon, Operator, and, or}
-use Rattle.token.specs.Texts.{none, more}
-use Rattle.token.specs.Texts as texts
 use Rattle.operand.specs.declared.Name.{Name}
 use Rattle.operand.specs.declared.Name.the-variants.{MessageType as typeName, Attribute as attributeName, Path as pathName, Peer as peerName, Time as timeName, Network as networkName}
 use Rattle.filter.specs.Words.{Role, joins, flag, name, vocabulary, Says}
@@ -31,13 +28,13 @@ wordly [] = true
 wordly (b ∷ bs) = pick (pick (leb 45 b) (leb b 126) false) (wordly bs) false
 
 -- what passes is wordly
-pub wordly-sound : (l : List ℕ) → wordly l ≡ true → texts.Every Wordly l
+pub wordly-sound : (l : List ℕ) → wordly l ≡ true → Every Wordly l
 unfolding wordly
-wordly-sound [] e = none
+wordly-sound [] e = every-none
 wordly-sound (b ∷ bs) e =
     let x = each (pick (leb 45 b) (leb b 126) false) (wordly bs) e in
     let y = each (leb 45 b) (leb b 126) (x .0) in
-    more (record { low = leb-true 45 b (y .0); high = leb-true b 126 (y .1) }) (wordly-sound bs (x .1))
+    every-more (record { low = leb-true 45 b (y .0); high = leb-true b 126 (y .1) }) (wordly-sound bs (x .1))
 
 -- and there are one to ten
 writable : List ℕ → Bool
@@ -54,7 +51,7 @@ all-writable =
 pub record Written (w : List ℕ) : Type 0 where
   pub some : 1 ≤ length w
   pub few : length w ≤ 10
-  pub bytes : texts.Every Wordly w
+  pub bytes : Every Wordly w
 
 -- every word that says something is one
 pub said-written : {w : List ℕ} {r : Role} → Says w r → Written w

@@ -8,7 +8,7 @@ use mathlib.Core.List.{List, [], _∷_, _++_, append-assoc, append-nil}
 use lib.Dec.{ltb}
 use Rattle.program.specs.Readings.{Test, and, or, Reading}
 use Rattle.token.specs.Tokens.{Word, Token, open′, close, bang, word, quoted}
-use Rattle.filter.specs.Words.{Role, joins, flag, name, Says}
+use Rattle.filter.specs.Words.{Role, joins, flag, name, Says, roleOf}
 use Rattle.filter.specs.Grammar.{Operand, a-word, a-quoted, Part, expression, conjunction, factor, Reads, flagged, tested, negated, grouped, single, anded, lone, ored}
 use Rattle.filter.specs.Levels.{openAt}
 use Rattle.filter.proofs.Walks.{no-ok}
@@ -18,7 +18,6 @@ use Rattle.filter.proofs.Agree.{levels-within}
 use Rattle.operand.specs.declared.Name.{Name}
 use Rattle.operand.specs.Tests.{StandsFor, meaning}
 use Rattle.operand.proofs.Meanings.{meaning-sound, meaning-complete}
-use Rattle.filter.specs.Words.{roleOf}
 use Rattle.filter.proofs.Roles.{role-said}
 
 -- these tokens lead to h
@@ -34,7 +33,7 @@ pub data Before : (p : Part) → List Token → Hole p → Type 0 where
   at-not : {ts : List Token} {h : Hole factor} → Before factor ts h → Before factor (ts ++ (bang ∷ [])) (negating h)
 
 -- ts is what leads to h, and a part in h that reads as r
-abbrev pub Had : (p : Part) → List Token → Reading → Hole p → Type 0
+abbrev Had : (p : Part) → List Token → Reading → Hole p → Type 0
 Had p ts r h = (us vs : List Token) × (ts ≡ us ++ vs) × Before p us h × Reads p vs r
 
 -- ts leads to a state
@@ -67,7 +66,7 @@ abbrev pub Ended : List Token → Option Reading → Type 0
 Ended ts none = Unit {0}
 Ended ts (some r) = Reads expression ts r
 
-abbrev pub Came : List Token → Way → Type 0
+abbrev Came : List Token → Way → Type 0
 Came ts (came s) = At ts s
 Came ts (stopped w us) = Unit {0}
 

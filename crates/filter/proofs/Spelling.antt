@@ -4,18 +4,17 @@ use native.Mathlib.Omega.{arith}
 use mathlib.Core.Path.{_≡_, refl, sym, ap}
 use mathlib.Core.List.{List, [], _∷_, _++_, append-assoc}
 use lib.ListN.{length, length-append}
-use Rattle.octets.specs.Lists.{every-none, every-more}
-use Rattle.octets.specs.Lists as list
+use Rattle.octets.specs.Lists.{Every, every-none, every-more}
+use Rattle.octets.proofs.Every.{every-append, every-weaker}
 use Rattle.program.specs.Readings.{Reading, weight}
 use Rattle.program.specs.Records.{weightLimit}
 use Rattle.program.specs.Layout.{recordSize}
-use Rattle.token.specs.Texts.{textLimit, Blank, space, tab, lineFeed, Allowed, printed, Every, none, more}
+use Rattle.token.specs.Texts.{textLimit, Blank, space, tab, lineFeed, Allowed, printed}
 use Rattle.token.specs.Tokens.{Token, open′, close, bang, word, quoted, Mark, opening, closing, banging, Letter, Stops, before, Placed, placed, Lexes, nothing, blanks, marks, words, quotes}
 use Rattle.filter.specs.Grammar.{expression, Reads}
 use Rattle.filter.specs.Levels.{levelLimit, openAt}
 use Rattle.filter.specs.Answers.{bare, DerivedWithin, compiled, Answers, compiles}
 use Rattle.filter.proofs.Counts.{levels, levels-open}
-use Rattle.operand.proofs.FrontReads.{run-append, run-map}
 
 -- a printed byte that is no quote
 pub record Plain (b : ℕ) : Type 0 where
@@ -92,15 +91,15 @@ token-lexes open′ p n d = marks opening (spaced (suc n) (omega arith) d)
 token-lexes close p n d = marks closing (spaced (suc n) (omega arith) d)
 token-lexes bang p n d = marks banging (spaced (suc n) (omega arith) d)
 token-lexes (word []) p n d = absurd (omega (arith, p .0))
-token-lexes (word (b ∷ w)) (h, more k a) n d =
-    words w (wordly-letter b k) (run-map wordly-letter a) space-stops (spaced (suc n + length w) (omega arith) d) refl
+token-lexes (word (b ∷ w)) (h, every-more k a) n d =
+    words w (wordly-letter b k) (every-weaker wordly-letter a) space-stops (spaced (suc n + length w) (omega arith) d) refl
 token-lexes (quoted v) p n {bs} d =
-    quotes v (run-map (λ b q. record { no-quote = q .no-quote }) p)
+    quotes v (every-weaker (λ b q. record { no-quote = q .no-quote }) p)
     (spaced (suc (suc n + length v)) (omega (arith, length-append v (39 ∷ []))) d)
     (ap (λ (l : List ℕ). 39 ∷ l) (append-assoc v (39 ∷ []) (32 ∷ bs)))
 
 -- a text that is spelled has those tokens
-pub spell-lexes : {ts : List Token} → list.Every Proper ts → (n : ℕ) → Lexes n (spell ts) (positioned n ts)
+pub spell-lexes : {ts : List Token} → Every Proper ts → (n : ℕ) → Lexes n (spell ts) (positioned n ts)
 unfolding spell positioned
 spell-lexes every-none n = nothing
 spell-lexes (every-more {a = t} p ps) n = token-lexes t p n (spell-lexes ps (suc (n + length (spelled t))))
@@ -120,23 +119,23 @@ seen b l h = printed l h
 -- the bytes of a token may
 token-allowed : (t : Token) → Proper t → Every Allowed (spelled t)
 unfolding spelled
-token-allowed open′ p = more (seen 40 (omega arith) (omega arith)) none
-token-allowed close p = more (seen 41 (omega arith) (omega arith)) none
-token-allowed bang p = more (seen 33 (omega arith) (omega arith)) none
-token-allowed (word w) p = run-map (λ b q. seen b (omega (arith, q .low)) (q .high)) (p .1)
+token-allowed open′ p = every-more (seen 40 (omega arith) (omega arith)) every-none
+token-allowed close p = every-more (seen 41 (omega arith) (omega arith)) every-none
+token-allowed bang p = every-more (seen 33 (omega arith) (omega arith)) every-none
+token-allowed (word w) p = every-weaker (λ b q. seen b (omega (arith, q .low)) (q .high)) (p .1)
 token-allowed (quoted v) p =
-    more (seen 39 (omega arith) (omega arith)) (run-append (run-map (λ b q. seen b (q .low) (q .high)) p) (more (seen 39 (omega arith) (omega arith)) none))
+    every-more (seen 39 (omega arith) (omega arith)) (every-append (every-weaker (λ b q. seen b (q .low) (q .high)) p) (every-more (seen 39 (omega arith) (omega arith)) every-none))
 
 -- a text that is spelled has allowed bytes
-pub spell-allowed : {ts : List Token} → list.Every Proper ts → Every Allowed (spell ts)
+pub spell-allowed : {ts : List Token} → Every Proper ts → Every Allowed (spell ts)
 unfolding spell
-spell-allowed every-none = none
-spell-allowed (every-more {a = t} p ps) = run-append (token-allowed t p) (more (seen 32 (omega arith) (omega arith)) (spell-allowed ps))
+spell-allowed every-none = every-none
+spell-allowed (every-more {a = t} p ps) = every-append (token-allowed t p) (every-more (seen 32 (omega arith) (omega arith)) (spell-allowed ps))
 
 -- ---- the whole
 
 -- tokens that can be written and are derived: the text that spells them compiles, where size, levels and weight are as allowed
-pub spelled-compiles : {ts : List Token} {r : Reading} (d : Reads expression ts r) → levels d ≤ levelLimit → list.Every Proper ts
+pub spelled-compiles : {ts : List Token} {r : Reading} (d : Reads expression ts r) → levels d ≤ levelLimit → Every Proper ts
     → length (spell ts) ≤ textLimit → weight r ≤ weightLimit → Answers (spell ts) (recordSize * weightLimit) (compiled r)
 spelled-compiles {ts} {r} d l p s w = compiles (record { short = s; allowed = spell-allowed p }) (by-tokens (bare-positioned 0 ts)) w (omega arith)
   where

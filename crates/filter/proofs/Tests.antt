@@ -2,79 +2,53 @@
 use Prim.Native.Nat.{ℕ, _+_, _*_, _≤_, _<_}
 use native.Mathlib.Omega.{arith}
 use mathlib.Core.Path.{_≡_, refl, sym, ap, _∙_}
-use mathlib.Core.Bool.{Bool, true, false}
+use mathlib.Core.Bool.{true, false}
 use mathlib.Core.Option.{Option, some, none}
 use mathlib.Core.List.{List, [], _∷_, map, append-nil}
-use lib.ListN.{length, length-append}
+use lib.ListN.{length}
 use lib.Seq.{sets}
-use borrow.Author.Tests.{le-ltb}
-use denote.Enum.Declared.{tagOf}
-use types.Run.{OneOf, miss}
 use Rattle.octets.specs.Writes.{Written}
-use Rattle.octets.proofs.Choices.{never}
-use Rattle.octets.proofs.Writes.{both}
-use Rattle.aspath.specs.declared.Item.{Item}
 use Rattle.program.specs.declared.Fields.{Fields}
-use Rattle.program.specs.Readings.{Test, itemCount, test, weight}
-use Rattle.program.specs.Records.{item}
-use Rattle.program.specs.Layout.{recordSize, fieldsOf, laid, encodeAll}
-use Rattle.program.specs.Compiling.{headOf, itemsOf, records, programOf}
-use Rattle.program.proofs.MachineLaws.{items-counted}
+use Rattle.program.specs.Readings.{weight, Test, itemCount, test}
+use Rattle.program.specs.Layout.{recordSize, laid, fieldsOf, encodeAll}
+use Rattle.program.specs.Compiling.{programOf, headOf, itemsOf, records}
 use Rattle.token.specs.Texts.{textLimit}
-use Rattle.token.specs.Tokens.{Token, open′, close, bang, word, quoted, placed}
-use Rattle.token.specs.Next.{Closed, nextAt, bytesIn, tokenIn}
+use Rattle.token.specs.Tokens.{Token, word, placed}
+use Rattle.token.specs.Next.{nextAt, bytesIn, tokenIn, Closed}
 use Rattle.token.specs.declared.Kind.{Kind}
-use Rattle.token.specs.declared.Kind.the-variants.{End, Open, Close, Bang, Word, Quoted, Unclosed}
+use Rattle.token.specs.declared.Kind.the-variants.{End, Open, Close, Bang, Quoted, Unclosed, Word}
 use Rattle.token.specs.declared.Lexeme.{Lexeme}
-use Rattle.token.proofs.Kind.{the-type as kind-type}
-use Rattle.token.proofs.Nexts.{kind-token, next-closed, next-token}
-use Rattle.operand.specs.declared.Name.{Name}
-use Rattle.operand.specs.declared.Meant.the-variants.{Head, Broken}
-use Rattle.operand.specs.Patterns.{itemsAtFront}
-use Rattle.operand.specs.Peers.{by-as, by-address, by-both}
-use Rattle.operand.specs.Tests.{StandsFor, type, attribute, path, peer, network, time, meaning, meantOf, meantBy}
-use Rattle.operand.proofs.Meanings.{meaning-sound}
-use Rattle.operand.proofs.OperandItems.{items-short}
-use Rattle.operand.proofs.OperandPatterns.{pattern-complete}
+use Rattle.token.proofs.Nexts.{kind-token}
 use Rattle.filter.specs.Words.{Role, joins, flag, name, roleOf}
 use Rattle.filter.specs.Grammar.{factor}
 use Rattle.filter.specs.Answers.{bare}
-use Rattle.filter.specs.Reader.{Hole, State, want, operand, Why, bad, broken, stuck, refused, settle, begin, fill, conclude, finish, move}
+use Rattle.filter.specs.Reader.{Hole, State, want, bad, stuck, refused, settle, conclude, finish, move, operand, Why, broken, begin, fill}
 use Rattle.filter.specs.Answering.{refusalOf}
-use Rattle.filter.specs.Parsing.{roleSaid, operandKind, opensLevel, roleIn, from, run, begins, Stood, Over, Ready, Passed, TestSays}
-use Rattle.filter.specs.declared.Refusal.the-variants as refusals
+use Rattle.filter.specs.Parsing.{roleIn, from, run, begins, Stood, Over, Ready, Passed, operandKind, opensLevel, TestSays}
 use Rattle.filter.specs.declared.Parsed.the-variants.{Upto, Refused}
-use Rattle.filter.specs.declared.Role.{Role as Said}
-use Rattle.filter.specs.declared.Role.the-variants as said
-use Rattle.filter.proofs.Role.{the-type as role-type}
-use Rattle.operand.proofs.OperandPatterns.{items-in}
-use Rattle.filter.proofs.Parts.{start-here, says-read, says-stopped}
-use Rattle.filter.proofs.Steps.{ready-next, next-behind, token-within, from-next, fewer-next, end-none, run-none, run-takes, run-stuck, run-breaks, stopped-here, passed-next, passed-both}
-
--- ---- answers of the grammar functions
+use Rattle.filter.proofs.Steps.{run-none, end-none, token-within, ready-next, next-behind, from-next, fewer-next, run-takes, run-stuck, stopped-here, passed-next, passed-both, run-breaks}
+use Rattle.octets.proofs.Choices.{never}
+use Rattle.octets.proofs.Writes.{both}
+use Rattle.aspath.specs.declared.Item.{Item}
+use Rattle.program.specs.Records.{item}
+use Rattle.program.proofs.MachineLaws.{items-counted}
+use Rattle.operand.specs.declared.Name.{Name}
+use Rattle.operand.specs.declared.Meant.the-variants.{Head, Broken}
+use Rattle.operand.specs.Patterns.{itemsAtFront}
+use Rattle.operand.specs.Tests.{meaning, meantBy}
+use Rattle.operand.proofs.Meanings.{meaning-sound}
+use Rattle.filter.specs.declared.Refusal.the-variants as refusals
+use Rattle.filter.proofs.ReadyTokens.{ready-closed, token-sized, start-here, worded, noTest}
+use Rattle.filter.proofs.Parts.{says-read, says-stopped}
+use Rattle.filter.proofs.TestOperands.{Offered, offered, Headed, headed, none-meant, Itemed, means-items}
 
 -- ---- a token that nothing takes
 
 module _ {text : List ℕ} {t : Lexeme} {n : ℕ} (ready : Ready text t n) where
-  -- every quote is closed
-  pub ready-closed : t .kind ≡ Unclosed → ⊥
-  ready-closed k = next-closed (ready .closed) (ap (λ (l : Lexeme). l .kind) (ready .here) ∙ k)
-
-  -- the bytes of a token are no more than its places
-  pub token-sized : {a : Token} → tokenIn text t ≡ some a → length (bytesIn text t) + t .start ≤ t .end
-  token-sized token = rw (ready .here) at (next-token (ready .closed) (ap (tokenIn text) (ready .here) ∙ token) .sized)
-
   -- at the end, in a state that wants more
   pub run-end : (x : State) → t .kind ≡ End → finish x ≡ none → run x (from text t) ≡ refused bad (bare (from text t))
   unfolding bare conclude
   run-end x k f = rw (end-none ready k .0) (run-none x ∙ ap conclude f)
-
--- a role that no test has
-abbrev pub noTest : Option Role → Bool
-noTest none = true
-noTest (some (joins o)) = true
-noTest (some (flag x)) = false
-noTest (some (name k)) = false
 
 -- a word with such a role is not taken
 begin-stuck : (h : Hole factor) (r : Option Role) → noTest r ≡ true → begin h r ≡ stuck
@@ -118,100 +92,6 @@ module _ {text : List ℕ} {t : Lexeme} {n : ℕ} (ready : Ready text t n) where
   unfolding begins
   no-test o r = record { says = λ level. says-stopped refl (stopped-here factor bad (start-here ready) (λ h d. stuck-factor o r h)) }
 
--- ---- a word that names a test
-
--- a token with a role is a word
-pub record Worded (o : Option Token) (r : Role) : Type 0 where
-  pub bytes : List ℕ
-  pub token : o ≡ some (word bytes)
-  pub role : roleOf bytes ≡ some r
-
--- and its bytes say that role
-pub worded : (o : Option Token) {r : Role} → roleIn o ≡ some r → Worded o r
-worded none e = let z : _≡_ {A = ℕ} 0 1 = cc in absurd (omega arith)
-worded (some open′) e = let z : _≡_ {A = ℕ} 0 1 = cc in absurd (omega arith)
-worded (some close) e = let z : _≡_ {A = ℕ} 0 1 = cc in absurd (omega arith)
-worded (some bang) e = let z : _≡_ {A = ℕ} 0 1 = cc in absurd (omega arith)
-worded (some (word w)) e = record { bytes = w; token = refl; role = e }
-worded (some (quoted w)) e = let z : _≡_ {A = ℕ} 0 1 = cc in absurd (omega arith)
-
--- ---- the operand of a test
-
--- a token whose bytes decide where an operand is wanted
-record Offered (text : List ℕ) (o : Lexeme) : Type 0 where
-  token : Token
-  is : tokenIn text o ≡ some token
-  moves : (k : Name) (h : Hole factor) → move (operand k h) token ≡ fill h (meaning k (bytesIn text o))
-
--- a lexeme that may be an operand is such a token
-offered : (text : List ℕ) (o : Lexeme) → operandKind (o .kind) ≡ true → Offered text o
-unfolding move
-offered text o e = go (o .kind) refl e
-  where
-    go : (k : Kind) → o .kind ≡ k → operandKind k ≡ true → Offered text o
-    go End k e = never e
-    go Open k e = never e
-    go Close k e = never e
-    go Bang k e = never e
-    go Word k e = record { token = word (bytesIn text o); is = kind-token text o k; moves = λ m h. refl }
-    go Quoted k e = record { token = quoted (bytesIn text o); is = kind-token text o k; moves = λ m h. refl }
-    go Unclosed k e = never e
-
--- the test that an answer's record is of
-pub record Headed (k : Name) (v : List ℕ) (f : Fields) : Type 0 where
-  pub test : Test
-  pub means : meaning k v ≡ some test
-  pub head : f ≡ fieldsOf (headOf test)
-
--- an operand of at most a text's size means what is answered
-meant-means : (k : Name) (v : List ℕ) → length v ≤ textLimit → meantBy k v ≡ meantOf (meaning k v)
-unfolding meantBy
-meant-means k v h = rw (le-ltb textLimit (length v) h)
-
--- a record was answered
-headed : (k : Name) (v : List ℕ) {f : Fields} → length v ≤ textLimit → Head f ≡ meantBy k v → Headed k v f
-headed k v {f} h e = go (meaning k v) refl (e ∙ meant-means k v h)
-  where
-    go : (o : Option Test) → meaning k v ≡ o → Head f ≡ meantOf o → Headed k v f
-    go none m e = let z : _≡_ {A = ℕ} 0 1 = cc in absurd (omega arith)
-    go (some x) m e = record { test = x; means = m; head = cc }
-
--- the operand breaks its test's rule
-none-meant : (k : Name) (v : List ℕ) → length v ≤ textLimit → Broken ≡ meantBy k v → meaning k v ≡ none
-none-meant k v h e = go (meaning k v) refl (e ∙ meant-means k v h)
-  where
-    go : (o : Option Test) → meaning k v ≡ o → Broken ≡ meantOf o → meaning k v ≡ none
-    go none m e = m
-    go (some x) m e = let z : _≡_ {A = ℕ} 0 1 = cc in absurd (omega arith)
-
--- ---- the items of a test
-
--- the items of a test that an operand means are those at the operand's front, as its record says; only a path has any
-pub record Itemed (v : List ℕ) (x : Test) : Type 0 where
-  pub few : itemCount x ≤ length v
-  pub listed : fieldsOf (headOf x) .kind ≡ 3 → (itemsAtFront v ≡ itemsOf x) × (fieldsOf (headOf x) .count ≡ itemCount x)
-  pub alone : (fieldsOf (headOf x) .kind ≡ 3 → ⊥) → itemsOf x ≡ []
-
--- a test with no items
-no-items : {v : List ℕ} (x : Test) → (fieldsOf (headOf x) .kind ≡ 3 → ⊥) → itemsOf x ≡ [] → Itemed v x
-no-items x n e = record { few = omega (arith, items-counted x, ap length e); listed = λ k. absurd (n k); alone = λ k. e }
-
--- what an operand means has such items
-pub means-items : {k : Name} {v : List ℕ} {x : Test} → StandsFor k v x → Itemed v x
-unfolding headOf itemsOf itemCount fieldsOf
-means-items {x = x} (type c) = no-items x (λ e. omega arith) refl
-means-items {x = x} (attribute c) = no-items x (λ e. omega arith) refl
-means-items {v = v} (path {p = p} y) = record {
-  few = omega (arith, items-short (y .items-are), simp length-append at (ap length (y .joined)));
-  listed = λ k. (items-in v (pattern-complete y), refl);
-  alone = λ n. absurd (n refl);
-}
-means-items {x = x} (peer (by-as b)) = no-items x (λ e. omega arith) refl
-means-items {x = x} (peer (by-address a)) = no-items x (λ e. omega arith) refl
-means-items {x = x} (peer (by-both a g h b e)) = no-items x (λ e. omega arith) refl
-means-items {x = x} (network y) = no-items x (λ e. omega arith) refl
-means-items {x = x} (time y) = no-items x (λ e. omega arith) refl
-
 -- ---- a test that was read
 
 -- a test stands from t up to u
@@ -248,7 +128,7 @@ unfolding weight records encodeAll
 alone-says {x = x} k i e w = test-says k (omega (arith, items-counted x, ap length i)) (w .laid ∙ rw (e, i, append-nil (laid (fieldsOf (headOf x)))) refl)
 
 -- a test whose items stand behind its record, as an answer
-pub listed-says : {text : List ℕ} {t u : Lexeme} {n p z : ℕ} {old mid new : List ℕ} {x : Test} {f : Fields} {is : List Item} → Taken text t u x → is ≡ itemsOf x → f .count ≡ itemCount x
+listed-says : {text : List ℕ} {t u : Lexeme} {n p z : ℕ} {old mid new : List ℕ} {x : Test} {f : Fields} {is : List Item} → Taken text t u x → is ≡ itemsOf x → f .count ≡ itemCount x
     → f ≡ fieldsOf (headOf x) → Written old (recordSize * n) (laid f) mid p → Written mid p (encodeAll (map item is)) new z → TestSays text t n old (Upto u (n + 1 + f .count)) new
 unfolding weight records encodeAll
 listed-says {f = f} {is = is} k i c e w y = test-says k (omega (arith, c)) (both (laid f) (encodeAll (map item is)) w y .laid ∙ rw (e, i) refl)
@@ -273,7 +153,7 @@ module _ {text : List ℕ} {t : Lexeme} {n : ℕ} (ready : Ready text t n) where
 
   module _ {k : Name} {o : Lexeme} (r : roleIn (tokenIn text t) ≡ some (name k)) (e : o ≡ nextAt text (t .end)) where
     -- the token behind a test's name is ready
-    pub ready-operand : Ready text o (n + 1)
+    ready-operand : Ready text o (n + 1)
     ready-operand = rw e (ready-next ready (worded (tokenIn text t) r .token))
 
     -- it stands behind the name
@@ -360,24 +240,3 @@ module _ {text : List ℕ} {t : Lexeme} {n : ℕ} (ready : Ready text t n) where
         named-path d g w y =
             let i = items .listed (sym (ap (λ (x : Fields). x .kind) (head-test .head)) ∙ g) in
             listed-says (named-taken d) (i .0) (ap (λ (x : Fields). x .count) (head-test .head) ∙ i .1) (head-test .head) w y
-
--- ---- kinds and roles by their tags
-
--- where `(` and `!` are dealt with, no level is opened
-pub no-level : (k : Kind) → OneOf (0 ∷ 2 ∷ 4 ∷ 5 ∷ 6 ∷ []) (tagOf kind-type k) → opensLevel k ≡ false
-no-level End o = refl
-no-level Open o = absurd (miss (0 ∷ 2 ∷ 4 ∷ 5 ∷ 6 ∷ []) 1 tt o)
-no-level Close o = refl
-no-level Bang o = absurd (miss (0 ∷ 2 ∷ 4 ∷ 5 ∷ 6 ∷ []) 3 tt o)
-no-level Word o = refl
-no-level Quoted o = refl
-no-level Unclosed o = refl
-
--- a word that is said to name no test
-pub no-test-said : (r : Said) → OneOf (0 ∷ 1 ∷ 5 ∷ []) (tagOf role-type r) → noTest (roleSaid r) ≡ true
-no-test-said said.And o = refl
-no-test-said said.Or o = refl
-no-test-said said.Loops o = absurd (miss (0 ∷ 1 ∷ 5 ∷ []) 2 tt o)
-no-test-said said.Bogons o = absurd (miss (0 ∷ 1 ∷ 5 ∷ []) 3 tt o)
-no-test-said (said.Named k) o = absurd (miss (0 ∷ 1 ∷ 5 ∷ []) 4 tt o)
-no-test-said said.Unknown o = refl

@@ -6,6 +6,7 @@ use mathlib.Core.Path.{_≡_, refl, sym, ap, _∙_}
 use mathlib.Core.List.{List, [], _∷_, _++_, append-assoc}
 use lib.ListN.{length, length-append}
 use Rattle.octets.specs.Lists.{Every, every-none, every-more}
+use Rattle.octets.proofs.Every.{every-weaker}
 use Rattle.token.specs.Tokens.{Token, word, quoted, Mark, opening, closing, banging, Placed, placed, Lexes, nothing, blanks, marks, words, quotes}
 use Rattle.filter.proofs.Spelling.{spelled}
 
@@ -30,8 +31,7 @@ further front {q = q} e s = record {
 -- as all tokens do
 all-further : {m n : ℕ} (front : List ℕ) {bytes : List ℕ} {qs : List Placed} → m ≡ n + length front → Every (Stood m bytes) qs
     → Every (Stood n (front ++ bytes)) qs
-all-further front e every-none = every-none
-all-further front e (every-more s ss) = every-more (further front e s) (all-further front e ss)
+all-further front e ss = every-weaker (λ q s. further front e s) ss
 
 -- a token at the front
 at-front : (n : ℕ) (t : Token) (behind : List ℕ) → 1 ≤ length (spelled t) → Stood n (spelled t ++ behind) (placed n t)

@@ -1,12 +1,13 @@
 -- What a text is answered: the paper's words for 1 to 8, with no reader in them.
-use Prim.Native.Nat.{ℕ, suc, _+_, _*_, _≤_, _<_}
+use Prim.Native.Nat.{ℕ, suc, _*_, _≤_, _<_}
 use mathlib.Core.Path.{_≡_}
 use mathlib.Core.List.{List, [], _∷_, _++_}
 use lib.ListN.{length}
+use Rattle.octets.specs.Lists.{Every}
 use Rattle.program.specs.Readings.{Test, Reading, weight}
 use Rattle.program.specs.Records.{weightLimit}
 use Rattle.program.specs.Layout.{recordSize}
-use Rattle.token.specs.Texts.{textLimit, Allowed, Every, Forbidden}
+use Rattle.token.specs.Texts.{textLimit, Allowed, Forbidden}
 use Rattle.token.specs.Tokens.{Word, Token, open′, bang, word, Placed, placed, Lexes, Unclosed}
 use Rattle.filter.specs.Words.{name, Says}
 use Rattle.filter.specs.Grammar.{Operand, expression, Reads}

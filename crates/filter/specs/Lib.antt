@@ -1,3 +1,4 @@
+-- What filters are: their grammar and levels, what compiling a text answers, and how the code reads it.
 pub mod Words
 pub mod Grammar
 pub mod Levels

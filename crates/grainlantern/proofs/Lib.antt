@@ -1,2 +1,3 @@
+-- Laws of the program. Assumes nothing.
 pub mod Onward
 pub mod Refusals

@@ -1,5 +1,5 @@
 -- A refusal's text: its place fits 32 bits, and 33 bytes hold the whole. Assumes nothing.
-use Prim.Native.Nat.{ℕ, _+_, _^_, _≤_, _<_}
+use Prim.Native.Nat.{ℕ, _^_, _≤_, _<_}
 use native.Mathlib.Nat.{zero-add}
 use native.Mathlib.Omega.{arith}
 use mathlib.Core.Path.{_≡_, sym, ap, _∙_}
@@ -9,7 +9,7 @@ use lib.Seq.{take-at}
 use Rattle.octets.specs.Writes.{upTo, Written}
 use Rattle.octets.proofs.Decimal.{digits-length}
 use Rattle.octets.proofs.Writes.{upTo-in, sets-start}
-use Rattle.token.proofs.LexPlaces.{unclosed-within}
+use Rattle.token.proofs.Lexing.{unclosed-within}
 use Rattle.filter.specs.Answers.{Outcome, Answers, too-long, forbidden, unclosed, bad-first, bad-end, too-heavy, no-room, compiles}
 use Rattle.filter.specs.Answering.{answer, saidOf, valueOf}
 use Rattle.filter.specs.declared.Refusal.{Refusal}

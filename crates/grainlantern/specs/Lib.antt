@@ -1,1 +1,2 @@
+-- What the program writes for a bad filter.
 pub mod Refusal

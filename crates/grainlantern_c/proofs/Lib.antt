@@ -1,1 +1,2 @@
+-- Laws of the functions for C. Assumes nothing.
 pub mod Answers

@@ -11,7 +11,7 @@ stepNumber Done = 1
 stepNumber (Cut left) = 2
 
 -- the record's bytes, nothing, or the bytes left
-abbrev pub stepBytes : Step → ℕ
+abbrev stepBytes : Step → ℕ
 stepBytes (Record start len) = len
 stepBytes Done = 0
 stepBytes (Cut left) = left

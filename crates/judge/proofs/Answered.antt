@@ -79,7 +79,7 @@ module _ {program bytes : List ℕ} {room : ℕ} {counting : Option Tally} where
 -- ---- and the only one
 
 -- with a valid program, a full tally is 21
-pub full-judged : {program : List ℕ} {counting : Option Tally} → Valid program → FullTally counting → (bytes : List ℕ) (room : ℕ)
+full-judged : {program : List ℕ} {counting : Option Tally} → Valid program → FullTally counting → (bytes : List ℕ) (room : ℕ)
     → judgeOf program bytes room counting ≡ declined 21
 unfolding judgeOf
 full-judged v f bytes room = rw (valid-complete v, tally-complete f)

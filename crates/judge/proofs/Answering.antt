@@ -64,7 +64,7 @@ room t e =
 -- ---- the answer for what a decoder said
 
 -- an answer and the lines afterwards are those of the outcome
-abbrev pub Comes : List ℕ → List ℕ → List ℕ → Decoded → Judged → List ℕ → Type 0
+abbrev Comes : List ℕ → List ℕ → List ℕ → Decoded → Judged → List ℕ → Type 0
 Comes program bytes old d j new = Answer j (decoded program bytes (length old) d) × (new ≡ linesAfter (decoded program bytes (length old) d) old)
 
 module _ (program bytes old : List ℕ) (d : Decoded) where

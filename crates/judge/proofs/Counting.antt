@@ -63,7 +63,7 @@ grows : {n : ℕ} → n ≤ fullCount → (n ≡ fullCount → ⊥) → n + 1 �
 grows h n = omega arith
 
 -- where a tally isn't full, each count of it fits after any answer
-pub after-fits : (o : Outcome) {t : Tally} → TallyFits t → (Full t → ⊥) → TallyFits (tallyAfter o t)
+after-fits : (o : Outcome) {t : Tally} → TallyFits t → (Full t → ⊥) → TallyFits (tallyAfter o t)
 after-fits o {t} f n =
     by-outcome o (grows (f .seen-fits) (λ e. n (full-seen e))) (grows (f .kept-fits) (λ e. n (full-kept e)))
     (grows (f .dropped-fits) (λ e. n (full-dropped e))) (grows (f .refused-fits) (λ e. n (full-refused e)))

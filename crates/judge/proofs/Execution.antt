@@ -144,7 +144,7 @@ module _ (m : Message) (program : List ℕ) (s : State) where
 
 module _ (truth : Record → List Item → Bool) (flag : Bool) (steps : ℕ) where
   -- passing over k records is going on past their bytes
-  pub exec-over : (k : ℕ) (l : List ℕ) → exec truth k flag steps (recordsIn l) ≡ exec truth zero flag steps (recordsIn (drop (recordSize * k) l))
+  exec-over : (k : ℕ) (l : List ℕ) → exec truth k flag steps (recordsIn l) ≡ exec truth zero flag steps (recordsIn (drop (recordSize * k) l))
   unfolding exec
   exec-over zero l = refl
   exec-over (suc k) l = go (decLe recordSize (length l)) (exec-over k (drop recordSize l))

@@ -1,3 +1,4 @@
+-- Laws of judging. Assumes nothing.
 pub mod Alike
 pub mod Answered
 pub mod Answering

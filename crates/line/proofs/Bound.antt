@@ -12,7 +12,7 @@ use Rattle.octets.specs.Choice.{pick}
 use Rattle.octets.specs.Numbers.{Octets}
 use Rattle.octets.specs.Rows.{itemsIn}
 use Rattle.octets.proofs.Bytes.{octets-none, octets-take, octets-drop}
-use Rattle.octets.proofs.Choices.{never}
+use Rattle.octets.proofs.Choices.{never, second-chosen}
 use Rattle.octets.proofs.Numbers.{number-lt}
 use Rattle.octets.proofs.Decimal.{digits-length}
 use Rattle.network.specs.declared.Network.{Network}
@@ -34,7 +34,6 @@ use Rattle.message.specs.Decode.{partOf, networksOf, messageAt}
 use Rattle.line.specs.Text.{following, prefixesText, pathText, optional}
 use Rattle.line.specs.Line.{originText, atomicText, widthText, attributeFields, closingFields, lineOf, linesOf}
 use Rattle.line.specs.Answer.{lineRoom, isAmple}
-use Rattle.octets.proofs.Choices.{second-chosen}
 use Rattle.line.proofs.Lines.{line-cons}
 use Rattle.line.proofs.Costs.{prefixes-short}
 use Rattle.line.proofs.PathCosts.{path-short}
@@ -89,7 +88,7 @@ closing-short address asn seconds width h =
 -- ---- a line, and both
 
 -- a line has at most 10 bytes for each byte of its prefixes, 3 for each byte of its attributes, and 67
-pub line-short : (type : ℕ) (prefixes : List ℕ) {attributes : List ℕ} (address asn seconds : ℕ) (width : Width) → Octets attributes → address < 2 ^ 32
+line-short : (type : ℕ) (prefixes : List ℕ) {attributes : List ℕ} (address asn seconds : ℕ) (width : Width) → Octets attributes → address < 2 ^ 32
     → length (lineOf type (networksOf prefixes) (attributesOf (widthBytes width) attributes) (closingFields address asn seconds width))
     ≤ 10 * length prefixes + 3 * length attributes + 67
 line-short type prefixes {attributes} address asn seconds width o h =

@@ -21,7 +21,7 @@ textCost text a = 1 + length (text a)
 
 module _ {A : Type 0} (separator : ℕ) (text : A → List ℕ) where
   -- texts, each after a separator, have the bytes of all together
-  pub following-length : (xs : List A) → length (following separator (map text xs)) ≡ total (textCost text) xs
+  following-length : (xs : List A) → length (following separator (map text xs)) ≡ total (textCost text) xs
   unfolding following total
   following-length [] = refl
   following-length (a ∷ xs) = simp length-append (omega (arith, following-length xs))

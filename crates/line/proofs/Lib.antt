@@ -1,3 +1,4 @@
+-- Laws of printed lines. Assumes nothing.
 pub mod Bound
 pub mod Costs
 pub mod Fields

@@ -33,7 +33,7 @@ separated-two separator x y more = refl
 
 module _ (type : ℕ) (attributes : List Attribute) (closing : List (List ℕ)) where
   -- the parts of a line as they are written one after another
-  abbrev pub lineText : List Network → List ℕ
+  abbrev lineText : List Network → List ℕ
   lineText networks =
       (type ∷ []) ++ ((124 ∷ []) ++ (prefixesText networks
       ++ (following 124 (attributeFields attributes) ++ (following 124 closing ++ (10 ∷ [])))))

@@ -11,8 +11,7 @@ use borrow.Author.Tests.{le-leb, eq-eqb, ne-eqb}
 use Rattle.octets.specs.Choice.{pick}
 use Rattle.octets.specs.Numbers.{numberAt}
 use Rattle.octets.specs.Decimal.{decimal}
-use Rattle.octets.proofs.Numbers.{number-drop}
-use Rattle.octets.proofs.Numbers.{number-one}
+use Rattle.octets.proofs.Numbers.{number-drop, number-one}
 use Rattle.aspath.specs.Wire.{numbersIn, segmentOf}
 use Rattle.line.specs.Text.{separated, numbersText, segmentText}
 

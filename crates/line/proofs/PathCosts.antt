@@ -10,7 +10,7 @@ use Rattle.octets.specs.Lists.{Every, every-none, every-more}
 use Rattle.octets.proofs.Bytes.{octets-drop}
 use Rattle.octets.proofs.Numbers.{number-lt}
 use Rattle.octets.proofs.Decimal.{digits-length, digits-few}
-use Rattle.octets.proofs.Encode.{total-same}
+use Rattle.octets.proofs.Every.{total-same}
 use Rattle.octets.proofs.Items.{items-every}
 use Rattle.aspath.specs.declared.Width.{Width}
 use Rattle.aspath.specs.declared.Width.the-variants.{Two, Four}

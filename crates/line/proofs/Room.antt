@@ -1,9 +1,9 @@
 -- The room for the lines of every record that is read: its sections fit in its message, which has 4,096 bytes at most. Assumes nothing.
-use Prim.Native.Nat.{ℕ, _+_, _-_, _^_, _≤_, _<_}
+use Prim.Native.Nat.{ℕ, _+_, _^_, _≤_, _<_}
 use native.Mathlib.Decide.{ℕ-discrete}
 use native.Mathlib.Omega.{arith}
 use mathlib.Core.Path.{_≡_}
-use mathlib.Core.Bool.{Bool, true, false}
+use mathlib.Core.Bool.{true}
 use mathlib.Core.List.{List}
 use lib.ListN.{length, length-drop}
 use borrow.Author.Tests.{eq-eqb, ne-eqb, le-ltb, le-leb}
@@ -14,7 +14,7 @@ use Rattle.message.specs.declared.Parts.{Parts}
 use Rattle.message.specs.declared.Decoded.the-variants.{Read}
 use Rattle.message.specs.Message.{Message, update}
 use Rattle.message.specs.Represents.{Represents, messageLimit}
-use Rattle.message.specs.Fields.{widthOf, frameStart, peerAddressField, frame, kindField, bodyStart, body}
+use Rattle.message.specs.Fields.{widthOf, frameStart, peerAddressField, frame, kindField, bodyStart}
 use Rattle.message.specs.Decode.{otherParts, updateParts, decodeOf}
 use Rattle.message.proofs.Decoding.{partsAt, partsOf, PassesAt, read-passes}
 use Rattle.message.proofs.RecordOctets.{represents-octets}

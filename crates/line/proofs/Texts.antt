@@ -30,7 +30,7 @@ module _ {A : Type 0} (size : List ℕ → ℕ) (item : List ℕ → A) (text : 
 -- ---- writing texts
 
 -- the place that a writer answers is one
-pub placed-in : {l m : List ℕ} {at p : ℕ} {xs : List ℕ} → Written l at xs m p → p ≤ lastPlace
+placed-in : {l m : List ℕ} {at p : ℕ} {xs : List ℕ} → Written l at xs m p → p ≤ lastPlace
 placed-in {l} {m} {at} {p} {xs} w = go (decLe (at + length xs) lastPlace)
   where
     go : Dec (at + length xs ≤ lastPlace) → p ≤ lastPlace

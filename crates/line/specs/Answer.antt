@@ -1,11 +1,10 @@
 -- What writing a text into a lent buffer answers and leaves.
 use Prim.Native.Nat.{ℕ, _+_}
-use mathlib.Core.Bool.{Bool, true, false}
+use mathlib.Core.Bool.{Bool, false}
 use mathlib.Core.List.{List, _++_}
 use lib.ListN.{length, drop}
 use lib.Dec.{leb, ltb}
 use Rattle.octets.specs.Choice.{pick}
-use Rattle.message.specs.declared.Part.{Part}
 use Rattle.message.specs.declared.Parts.{Parts}
 use Rattle.message.specs.Represents.{messageLimit}
 use Rattle.line.specs.declared.Wrote.{Wrote}

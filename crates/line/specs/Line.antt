@@ -59,7 +59,7 @@ abbrev pub closingFields : ℕ → ℕ → ℕ → Width → List (List ℕ)
 closingFields address asn seconds width = peerText address asn ∷ decimal seconds ∷ widthText width ∷ []
 
 -- the eleven fields of a line: its type, its prefixes, those of the attributes, and those that end it
-abbrev pub lineFields : ℕ → List Network → List Attribute → List (List ℕ) → List (List ℕ)
+abbrev lineFields : ℕ → List Network → List Attribute → List (List ℕ) → List (List ℕ)
 lineFields type prefixes attributes closing = (type ∷ []) ∷ prefixesText prefixes ∷ (attributeFields attributes ++ closing)
 
 -- a line: its fields with bars between, and LF; none where there are no prefixes

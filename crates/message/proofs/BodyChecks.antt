@@ -39,7 +39,7 @@ sections-decides b = record { sound = sound; complete = complete }
     complete (WrongSections.long-attributes h) = simp (lt-ltb _ _ h, settled)
 
 -- bytes are items to their end just where some items make them up
-pub whole-decides : {A : Type 0} {R : A → List ℕ → Type 0} {size : List ℕ → ℕ} {item : List ℕ → A} → Reads R size item
+whole-decides : {A : Type 0} {R : A → List ℕ → Type 0} {size : List ℕ → ℕ} {item : List ℕ → A} → Reads R size item
     → {l : List ℕ} → Octets l → Decides (whole size l) ((xs : List A) × Joined R xs l)
 whole-decides r o = record {
   sound = λ e. (_, whole-joined r o e);

@@ -26,12 +26,12 @@ use Rattle.message.specs.Decode.{wrongSize, wrongKind, wrongPeer, ones, 
 use Rattle.message.proofs.Ones.{ones-sound, ones-complete}
 
 -- where neither of two tests may hold, each fails
-pub neither : (a b : Bool) → pick a true b ≡ false → (a ≡ false) × (b ≡ false)
+neither : (a b : Bool) → pick a true b ≡ false → (a ≡ false) × (b ≡ false)
 neither true b e = never (sym e)
 neither false b e = (refl, e)
 
 -- where the first test has to hold and the second to fail, they do
-pub first-only : (a b : Bool) → pick a b true ≡ false → (a ≡ true) × (b ≡ false)
+first-only : (a b : Bool) → pick a b true ≡ false → (a ≡ true) × (b ≡ false)
 first-only true b e = (refl, e)
 first-only false b e = never (sym e)
 

@@ -9,14 +9,14 @@ use Rattle.octets.specs.Lists.{Every, total}
 use Rattle.octets.specs.Rows.{Joined}
 use Rattle.octets.proofs.Bytes.{octets-none}
 use Rattle.octets.proofs.Fields.{field-below}
-use Rattle.octets.proofs.Encode.{bytes-length, bytes-octets, bytes-field, joined-length, joined-most, joined-every}
+use Rattle.octets.proofs.Encode.{bytes-length, bytes-octets, bytes-field}
 use Rattle.network.specs.declared.Network.{Network}
 use Rattle.network.specs.Wire.{PrefixBytes}
 use Rattle.network.proofs.Prefixes.{prefix-exists, prefix-length, prefix-below, prefix-clear}
 use Rattle.aspath.specs.declared.Width.{Width}
 use Rattle.aspath.specs.declared.Width.the-variants.{Two, Four}
 use Rattle.aspath.specs.Wire.{widthBytes}
-use Rattle.octets.proofs.Items.{sized-exist}
+use Rattle.octets.proofs.Items.{joined-length, joined-most, joined-every, sized-exist}
 use Rattle.attributes.specs.Encodable.{attributeCost}
 use Rattle.attributes.proofs.AttributesExist.{attributes-exist, attribute-encodable, attribute-least}
 use Rattle.message.specs.Message.{Message}

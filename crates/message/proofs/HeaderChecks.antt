@@ -64,7 +64,7 @@ peer-decides s = record { sound = sound; complete = complete }
     complete (WrongPeer.other-family n) = simp (ne-eqb _ _ n, settled)
 
 -- the marker
-pub ones-decides : (n : ℕ) (m : List ℕ) → Decides (ones n m) (take n m ≡ replicate n 255)
+ones-decides : (n : ℕ) (m : List ℕ) → Decides (ones n m) (take n m ≡ replicate n 255)
 ones-decides n m = record { sound = ones-sound n m; complete = ones-complete n m }
 
 -- row 14

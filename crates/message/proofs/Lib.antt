@@ -1,3 +1,4 @@
+-- Laws of messages and their records. Assumes nothing.
 pub mod BodyChecks
 pub mod Checks
 pub mod Deciding

@@ -41,7 +41,7 @@ cut s at w place {rest} e r =
     ∙ ap (λ (l : List ℕ). take w (drop at s) ++ l) (drop-drop w at s ∙ ap (λ (n : ℕ). drop n s) e ∙ r)
 
 -- the w bytes at a place are a field, where there are so many
-pub field-cut : {s : List ℕ} → Octets s → (at w : ℕ) → at + w ≤ length s → Field w (numberAt s at w) (take w (drop at s))
+field-cut : {s : List ℕ} → Octets s → (at w : ℕ) → at + w ≤ length s → Field w (numberAt s at w) (take w (drop at s))
 field-cut {s} o at w h =
     let f = field-sound w (drop at s) (octets-drop at o) (simp length-drop (omega arith)) in
     record { long = f .long; octets = f .octets; value = f .value ∙ number-here s at w }

@@ -20,7 +20,7 @@ use Rattle.message.specs.Decode.{otherParts, updateParts, updateOf, mess
 use Rattle.message.proofs.Deciding.{Decides}
 use Rattle.message.proofs.HeaderChecks.{size-decides, kind-decides, peer-decides, frame-decides}
 use Rattle.message.proofs.BodyChecks.{sections-decides, attributes-decides, attributes-whole, body-decides, prefix-decides}
-use Rattle.message.proofs.Table.{first-one, first-none, Answers, answers-read, answers-row, first-refused, none-read}
+use Rattle.message.proofs.Table.{first-one, Answers, answers-read, answers-row, first-refused, none-read}
 
 -- in an UPDATE a check of the body decides the row on it
 in-update : {b : Bool} {C : List ℕ → Type 0} {s : List ℕ} → kindField (frame (widthOf s) s) ≡ update → Decides b (C (body (widthOf s) s)) → Decides b (InUpdate C s)
@@ -92,10 +92,6 @@ module _ {s : List ℕ} (o : Octets s) where
 pub refused-one : {s : List ℕ} {r r′ : Refusal} → RefusedWith s r → RefusedWith s r′ → r ≡ r′
 refused-one f g = first-one f g
 
--- and none is both refused and readable
-pub refused-unreadable : {s : List ℕ} {r : Refusal} → RefusedWith s r → Readable s → ⊥
-refused-unreadable f n = first-none f n
-
 -- ---- the numbers
 
 -- the refusals of the table, in its order
@@ -103,7 +99,7 @@ abbrev pub refusals : List Refusal
 refusals = map (λ (row : Row). row .refusal) rows
 
 -- the number of a refusal is 11 and its row's place
-pub number-place : (r : Refusal) → getD refusals (number r - 11) Size ≡ r
+number-place : (r : Refusal) → getD refusals (number r - 11) Size ≡ r
 unfolding rows
 number-place Size = refl
 number-place Kind = refl

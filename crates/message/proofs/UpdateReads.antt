@@ -31,7 +31,7 @@ pub record UpdateReads (m : Message) (b : List ℕ) : Type 0 where
   pub announced : networksOf (announcedIn b) ≡ m .announced
 
 -- where no code stands at two places, the codes are distinct
-pub once-distinct : (cs : List ℕ) → (Twice cs → ⊥) → distinct cs ≡ true
+once-distinct : (cs : List ℕ) → (Twice cs → ⊥) → distinct cs ≡ true
 once-distinct cs f = go (distinct cs) refl
   where
     go : (b : Bool) → distinct cs ≡ b → distinct cs ≡ true

@@ -24,7 +24,7 @@ abbrev pub networkCost : Network → ℕ
 networkCost n = 1 + bytesFor (n .len)
 
 -- the bytes of the body of an UPDATE, its attributes at their shortest
-abbrev pub updateCost : Message → ℕ
+abbrev updateCost : Message → ℕ
 updateCost m = 4 + total networkCost (m .withdrawn) + total (attributeCost (widthBytes (m .width))) (m .attributes) + total networkCost (m .announced)
 
 -- an UPDATE that has a body: no code comes twice, and all of it fits

@@ -1,3 +1,4 @@
+-- What messages are: the records that represent them, which are allowed, and how a record is refused.
 pub mod Message
 pub mod Represents
 pub mod Allowed

@@ -1,6 +1,6 @@
 -- Which bytes are a message's record: the layouts of RFC 6396 (sections 2 and 4.4) and RFC 4271 (sections 4.1 and 4.3), built up
 -- by joining their parts.
-use Prim.Native.Nat.{ℕ, _+_, _≤_}
+use Prim.Native.Nat.{ℕ, _≤_}
 use mathlib.Core.Path.{_≡_}
 use mathlib.Core.List.{List, [], _++_, map}
 use lib.ListN.{length, replicate}

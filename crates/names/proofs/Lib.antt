@@ -1,2 +1,3 @@
+-- Laws of names. Assumes nothing.
 pub mod Finding
 pub mod NamesDiffer

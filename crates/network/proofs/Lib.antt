@@ -1,3 +1,4 @@
+-- Laws of networks. Assumes nothing.
 pub mod Clearing
 pub mod Covers
 pub mod Prefixes

@@ -13,14 +13,13 @@ use borrow.Author.Tests.{lt-ltb, le-ltb}
 use Rattle.octets.specs.Choice.{pick}
 use Rattle.octets.specs.Numbers.{Octets, numberAt, bytesOf}
 use Rattle.octets.proofs.Bytes.{octets-drop, octets-take}
-use Rattle.octets.proofs.Numbers.{number-lt, number-drop, number-take}
+use Rattle.octets.proofs.Numbers.{number-lt, number-drop, number-take, number-high, pow-bytes}
 use Rattle.octets.proofs.Rows.{Sizes, Reads}
 use Rattle.network.specs.declared.Network.{Network}
 use Rattle.network.specs.Networks.{cleared, masked}
 use Rattle.network.specs.Wire.{bytesFor, PrefixBytes, prefixSize, networkOf}
 use Rattle.network.proofs.Clearing.{cleared-le, cleared-again, cleared-same}
 use Rattle.octets.proofs.Encode.{bytes-field}
-use Rattle.octets.proofs.Numbers.{number-high, pow-bytes}
 
 -- a length's bytes hold it
 pub bytesFor-holds : (len : ℕ) → len ≤ 8 * bytesFor len
@@ -70,7 +69,7 @@ prefix-sizes w = record { fits = λ l. go l (ℕ-discrete (prefixSize w l) 0) }
 -- ---- networks
 
 -- the bytes past those that hold the length make no difference to the address
-pub own-bytes : (w len : ℕ) {s : List ℕ} → 8 * (w / 8) ≡ w → Octets s → cleared w len (numberAt (take (bytesFor len) s) 0 (w / 8)) ≡ cleared w len (numberAt s 0 (w / 8))
+own-bytes : (w len : ℕ) {s : List ℕ} → 8 * (w / 8) ≡ w → Octets s → cleared w len (numberAt (take (bytesFor len) s) 0 (w / 8)) ≡ cleared w len (numberAt s 0 (w / 8))
 own-bytes w len {s} e o = go (w / 8) e (decLe (w / 8) (bytesFor len))
   where
     go : (n : ℕ) → 8 * n ≡ w → Dec (n ≤ bytesFor len) → cleared w len (numberAt (take (bytesFor len) s) 0 n) ≡ cleared w len (numberAt s 0 n)

@@ -1,18 +1,14 @@
--- Bytes for numbers and for items: a number below the power of the width has bytes, and so have items one after another. Assumes nothing.
-use Prim.Native.Nat.{ℕ, zero, suc, _+_, _*_, _/_, _%_, _^_, _≤_, _<_}
-use native.Mathlib.Nat.{pow-suc, zero-add, suc-mul}
+-- Bytes for numbers: a number below the power of the width has bytes. Assumes nothing.
+use Prim.Native.Nat.{ℕ, zero, suc, _+_, _/_, _%_, _^_, _≤_, _<_}
+use native.Mathlib.Nat.{pow-suc, zero-add}
 use native.Mathlib.Omega.{arith}
-use mathlib.Core.Path.{_≡_, refl, ap, _∙_}
-use mathlib.Core.List.{List, [], _∷_, _++_}
+use mathlib.Core.Path.{_≡_, refl}
+use mathlib.Core.List.{[], _∷_}
 use lib.ListN.{length, getD, length-append}
 use lib.Seq.{getD-at}
 use Rattle.octets.specs.Numbers.{Octets, Field, numberAt, bytesOf}
-use Rattle.octets.specs.Lists.{Every, every-none, every-more, total}
-use Rattle.octets.specs.Rows.{Joined, none, more}
 use Rattle.octets.proofs.Bytes.{octets-none, octets-append}
 use Rattle.octets.proofs.Numbers.{number-front}
-
--- ---- numbers
 
 -- they are w
 pub bytes-length : (w n : ℕ) → length (bytesOf w n) ≡ w
@@ -48,41 +44,3 @@ bytes-value (suc w) n h =
 -- a number below the power of the width has bytes
 pub bytes-field : (w n : ℕ) → n < 256 ^ w → Field w n (bytesOf w n)
 bytes-field w n h = record { long = bytes-length w n; octets = bytes-octets w n; value = bytes-value w n h }
-
--- ---- items
-
-module _ {A : Type 0} {R : A → List ℕ → Type 0} where
-  -- items that have bytes each have bytes one after another
-  pub joined-exist : {P : A → Type 0} {xs : List A} → ((a : A) → P a → (bytes : List ℕ) × R a bytes) → Every P xs → (bytes : List ℕ) × Joined R xs bytes
-  joined-exist f every-none = ([], none)
-  joined-exist f (every-more {a = a} x xs) = go (f a x) (joined-exist f xs)
-    where
-      go : {ys : List A} → (bytes : List ℕ) × R a bytes → (bytes : List ℕ) × Joined R ys bytes → (bytes : List ℕ) × Joined R (a ∷ ys) bytes
-      go x j = (x .0 ++ j .0, more (x .1) (j .1) refl)
-
-  -- joined items have the bytes of all together
-  pub joined-length : (cost : A → ℕ) → ((a : A) (bytes : List ℕ) → R a bytes → length bytes ≡ cost a)
-      → {xs : List A} {l : List ℕ} → Joined R xs l → length l ≡ total cost xs
-  unfolding total
-  joined-length cost f none = refl
-  joined-length cost f (more {a = a} {bytes = bytes} {rest = rest} x j e) =
-      ap length e ∙ length-append bytes rest ∙ cc (f a bytes x, joined-length cost f j)
-
-  -- and where each costs no more than its bytes, all cost no more
-  pub joined-most : (cost : A → ℕ) → ((a : A) (bytes : List ℕ) → R a bytes → cost a ≤ length bytes)
-      → {xs : List A} {l : List ℕ} → Joined R xs l → total cost xs ≤ length l
-  unfolding total
-  joined-most cost f none = omega arith
-  joined-most cost f (more {a = a} {bytes = bytes} {rest = rest} x j e) =
-      omega (arith, ap length e, length-append bytes rest, f a bytes x, joined-most cost f j)
-
-  -- what the bytes of an item say of it holds of each of joined items
-  pub joined-every : {P : A → Type 0} → ((a : A) (bytes : List ℕ) → R a bytes → P a) → {xs : List A} {l : List ℕ} → Joined R xs l → Every P xs
-  joined-every f none = every-none
-  joined-every f (more {a = a} {bytes = bytes} x j e) = every-more (f a bytes x) (joined-every f j)
-
--- members that cost the same each
-pub total-same : {A : Type 0} (w : ℕ) (xs : List A) → total (λ (a : A). w) xs ≡ length xs * w
-unfolding total
-total-same w [] = omega arith
-total-same w (a ∷ xs) = rw suc-mul (omega (arith, total-same w xs))

@@ -1,7 +1,8 @@
 -- Laws of items one after another: those read of bytes, and those that have bytes. Assumes nothing.
-use Prim.Native.Nat.{ℕ, zero, suc}
+use Prim.Native.Nat.{ℕ, zero, suc, _≤_}
+use native.Mathlib.Omega.{arith}
 use native.Mathlib.Decide.{ℕ-discrete}
-use mathlib.Core.Path.{_≡_, refl, _∙_}
+use mathlib.Core.Path.{_≡_, refl, ap, _∙_}
 use mathlib.Core.List.{List, [], _∷_, _++_}
 use lib.ListN.{length, drop, length-append}
 use borrow.Author.Tests.{eq-eqb, ne-eqb}
@@ -29,6 +30,35 @@ module _ {A : Type 0} {R : A → List ℕ → Type 0} where
   pub joined-octets : ((a : A) (bytes : List ℕ) → R a bytes → Octets bytes) → {xs : List A} {l : List ℕ} → Joined R xs l → Octets l
   joined-octets f none = octets-none
   joined-octets f (more {a = a} {bytes = bytes} x j e) = rw e (octets-append (f a bytes x) (joined-octets f j))
+
+  -- items that have bytes each have bytes one after another
+  pub joined-exist : {P : A → Type 0} {xs : List A} → ((a : A) → P a → (bytes : List ℕ) × R a bytes) → Every P xs → (bytes : List ℕ) × Joined R xs bytes
+  joined-exist f every-none = ([], none)
+  joined-exist f (every-more {a = a} x xs) = go (f a x) (joined-exist f xs)
+    where
+      go : {ys : List A} → (bytes : List ℕ) × R a bytes → (bytes : List ℕ) × Joined R ys bytes → (bytes : List ℕ) × Joined R (a ∷ ys) bytes
+      go x j = (x .0 ++ j .0, more (x .1) (j .1) refl)
+
+  -- joined items have the bytes of all together
+  pub joined-length : (cost : A → ℕ) → ((a : A) (bytes : List ℕ) → R a bytes → length bytes ≡ cost a)
+      → {xs : List A} {l : List ℕ} → Joined R xs l → length l ≡ total cost xs
+  unfolding total
+  joined-length cost f none = refl
+  joined-length cost f (more {a = a} {bytes = bytes} {rest = rest} x j e) =
+      ap length e ∙ length-append bytes rest ∙ cc (f a bytes x, joined-length cost f j)
+
+  -- and where each costs no more than its bytes, all cost no more
+  pub joined-most : (cost : A → ℕ) → ((a : A) (bytes : List ℕ) → R a bytes → cost a ≤ length bytes)
+      → {xs : List A} {l : List ℕ} → Joined R xs l → total cost xs ≤ length l
+  unfolding total
+  joined-most cost f none = omega arith
+  joined-most cost f (more {a = a} {bytes = bytes} {rest = rest} x j e) =
+      omega (arith, ap length e, length-append bytes rest, f a bytes x, joined-most cost f j)
+
+  -- what the bytes of an item say of it holds of each of joined items
+  pub joined-every : {P : A → Type 0} → ((a : A) (bytes : List ℕ) → R a bytes → P a) → {xs : List A} {l : List ℕ} → Joined R xs l → Every P xs
+  joined-every f none = every-none
+  joined-every f (more {a = a} {bytes = bytes} x j e) = every-more (f a bytes x) (joined-every f j)
 
   -- items that have bytes of known lengths each have bytes one after another
   pub sized-exist : {P : A → Type 0} {cost : A → ℕ} {xs : List A}

@@ -1,3 +1,4 @@
+-- Laws of bytes. Assumes nothing.
 pub mod Bytes
 pub mod Choices
 pub mod Equals

@@ -1,5 +1,5 @@
 -- Laws of big-endian numbers, over the width. Assumes nothing.
-use Prim.Native.Nat.{ℕ, zero, suc, _+_, _-_, _*_, _/_, _^_, _≤_, _<_}
+use Prim.Native.Nat.{ℕ, zero, suc, _+_, _*_, _/_, _^_, _≤_, _<_}
 use native.Mathlib.Nat.{pow-suc, add-assoc, add-zero, add-suc, mul-suc}
 use lib.Pow.{pow-add, high}
 use native.Mathlib.Numerals.{add-one}
@@ -78,7 +78,7 @@ unfolding numberAt
 number-one s at = rw add-zero (omega arith)
 
 -- a number of k bytes and m more
-pub number-split : (s : List ℕ) (at k m : ℕ) → numberAt s at (k + m) ≡ numberAt s at k * 256 ^ m + numberAt s (at + k) m
+number-split : (s : List ℕ) (at k m : ℕ) → numberAt s at (k + m) ≡ numberAt s at k * 256 ^ m + numberAt s (at + k) m
 unfolding numberAt
 number-split s at k zero = rw (add-zero k) (omega arith)
 number-split s at k (suc m) = rw (add-suc, number-split s at k m, pow-suc 256 m, add-assoc at k m) (omega arith)

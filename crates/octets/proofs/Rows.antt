@@ -29,7 +29,7 @@ module _ (size : List ℕ → ℕ) where
   end-whole (suc f) l z = simp (eq-eqb _ _ z)
 
   -- the bound on the items doesn't matter to the test where it is at least the number of bytes
-  pub whole-fuel : (f g : ℕ) (l : List ℕ) → length l ≤ f → length l ≤ g → wholeIn size f l ≡ wholeIn size g l
+  whole-fuel : (f g : ℕ) (l : List ℕ) → length l ≤ f → length l ≤ g → wholeIn size f l ≡ wholeIn size g l
   unfolding wholeIn
   whole-fuel zero g l h k = end-whole zero l (omega arith) ∙ sym (end-whole g l (omega arith))
   whole-fuel (suc f) zero l h k = end-whole (suc f) l (omega arith) ∙ sym (end-whole zero l (omega arith))
@@ -122,7 +122,7 @@ pub record Reads {A : Type 0} (R : A → List ℕ → Type 0) (size : List ℕ �
 
 module _ {A : Type 0} {R : A → List ℕ → Type 0} {size : List ℕ → ℕ} {item : List ℕ → A} (r : Reads R size item) where
   -- such sizes fit
-  pub reads-sizes : Sizes size
+  reads-sizes : Sizes size
   reads-sizes = record { fits = r .fits }
 
   stands : {a : A} {bytes : List ℕ} → R a bytes → (rest : List ℕ) → size (bytes ++ rest) ≡ 0 → ⊥

@@ -1,3 +1,4 @@
+-- What bytes are: numbers, decimals, parts, items one after another, and what a writer does.
 pub mod Choice
 pub mod Equal
 pub mod Numbers

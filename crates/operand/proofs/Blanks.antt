@@ -9,10 +9,12 @@ use lib.ListN.{length, getD, drop}
 use lib.Seq.{drop-drop}
 use borrow.Author.Tests.{ne-eqb}
 use Rattle.octets.proofs.Choices.{never}
-use Rattle.token.specs.Texts.{Blank, space, tab, lineFeed, Every, none, more}
+use Rattle.token.specs.Texts.{Blank, space, tab, lineFeed}
 use Rattle.octets.specs.Decimal.{Decimal, digit, more}
+use Rattle.octets.specs.Lists.{Every, every-none, every-more}
+use Rattle.octets.proofs.Every.{every-weaker}
 use Rattle.token.proofs.ByteTests.{blank-sound, blank-complete}
-use Rattle.operand.proofs.FrontReads.{Run, Stops, other, first-other, run-map}
+use Rattle.operand.proofs.FrontReads.{Run, Stops, other, first-other}
 use Rattle.operand.proofs.Decimals.{digit-is}
 use Rattle.operand.specs.Decimals.{isDigit}
 use Rattle.token.specs.Next.{isBlank, run, runEnd}
@@ -21,11 +23,11 @@ use Rattle.operand.specs.Fronts.{cut}
 
 -- bytes that pass are blanks
 pub blanks-sound : {l : List ℕ} → Run isBlank l → Every Blank l
-blanks-sound h = run-map blank-sound h
+blanks-sound h = every-weaker blank-sound h
 
 -- and blanks pass
 pub blanks-complete : {l : List ℕ} → Every Blank l → Run isBlank l
-blanks-complete h = run-map (λ b k. blank-complete k) h
+blanks-complete h = every-weaker (λ b k. blank-complete k) h
 
 -- a test that p passes and q doesn't tells bytes apart
 pub apart : (p : ℕ → Bool) {x : ℕ} (b : ℕ) → p x ≡ true → p b ≡ false → eqb x b ≡ false
@@ -39,10 +41,10 @@ digit-no-blank b e = rw (apart isDigit 32 e refl, apart isDigit 9 e refl, apart 
 -- digits stop before a blank
 pub blank-stops : {gap : List ℕ} → Every Blank gap → 1 ≤ length gap → (rest : List ℕ) → Stops isDigit (gap ++ rest)
 unfolding isDigit
-blank-stops none h rest = absurd (omega arith)
-blank-stops (more space bs) h rest = other refl
-blank-stops (more tab bs) h rest = other refl
-blank-stops (more lineFeed bs) h rest = other refl
+blank-stops every-none h rest = absurd (omega arith)
+blank-stops (every-more space bs) h rest = other refl
+blank-stops (every-more tab bs) h rest = other refl
+blank-stops (every-more lineFeed bs) h rest = other refl
 
 -- what no digit passes stops at a decimal
 pub decimal-stops : (p : ℕ → Bool) → ((b : ℕ) → isDigit b ≡ true → p b ≡ false) → {text : List ℕ} {n : ℕ} → Decimal text n → (rest : List ℕ) → Stops p (text ++ rest)

@@ -10,13 +10,14 @@ use lib.Dec.{leb, ltb}
 use lib.ListN.{length, length-append}
 use borrow.Author.Tests.{leb-true, le-leb, ltb-true, lt-ltb, le-ltb}
 use Rattle.octets.specs.Choice.{pick}
+use Rattle.octets.specs.Lists.{every-none, every-more}
 use Rattle.octets.proofs.Choices.{each, alike}
-use Rattle.token.specs.Texts.{none, more}
 use Rattle.operand.specs.Fronts.{read}
 use Rattle.octets.specs.Decimal.{Decimal, digit, more}
+use Rattle.octets.proofs.Every.{every-append}
 use Rattle.operand.specs.Decimals.{Below, isDigit, numberOn, number, numeral}
 use Rattle.operand.proofs.Holding.{Holds, nothing, held, holds-onward, holds-pick}
-use Rattle.operand.proofs.FrontReads.{Got, Run, Stops, end, other, run-append, ended-sound}
+use Rattle.operand.proofs.FrontReads.{Got, Run, Stops, end, other, ended-sound}
 
 -- ---- digits
 
@@ -36,8 +37,8 @@ digit-of b e =
 
 -- the bytes of a decimal are digits
 pub decimal-run : {bs : List ℕ} {n : ℕ} → Decimal bs n → Run isDigit bs
-decimal-run (digit d h) = more (digit-is d h) none
-decimal-run (more d p m h e) = rw e (run-append (decimal-run p) (more (digit-is d h) none))
+decimal-run (digit d h) = every-more (digit-is d h) every-none
+decimal-run (more d p m h e) = rw e (every-append (decimal-run p) (every-more (digit-is d h) every-none))
 
 -- there is one at least
 pub decimal-some : {bs : List ℕ} {n : ℕ} → Decimal bs n → 1 ≤ length bs

@@ -9,8 +9,8 @@ use lib.ListN.{length, getD, drop, take-append-drop}
 use lib.Seq.{take-at, drop-at}
 use borrow.Author.Tests.{eqb-true, eq-eqb}
 use Rattle.octets.specs.Choice.{pick}
+use Rattle.octets.specs.Lists.{Every, every-none, every-more}
 use Rattle.octets.proofs.Choices.{never}
-use Rattle.token.specs.Texts.{Every, none, more}
 use Rattle.token.specs.Next.{run}
 use Rattle.token.proofs.Runs.{run-every}
 use Rattle.operand.proofs.Holding.{Holds, nothing, held, holds-pick}
@@ -92,16 +92,6 @@ first-is b (x ∷ xs) z e = ap (λ (y : ℕ). y ∷ xs) (eqb-true x b e)
 abbrev pub Run : (ℕ → Bool) → List ℕ → Type 0
 Run p l = Every (λ (b : ℕ). p b ≡ true) l
 
--- two runs joined
-pub run-append : {P : ℕ → Type 0} {xs ys : List ℕ} → Every P xs → Every P ys → Every P (xs ++ ys)
-run-append none qs = qs
-run-append (more p ps) qs = more p (run-append ps qs)
-
--- what follows for each byte
-pub run-map : {P Q : ℕ → Type 0} {xs : List ℕ} → ((b : ℕ) → P b → Q b) → Every P xs → Every Q xs
-run-map f none = none
-run-map f (more {b} p ps) = more (f b p) (run-map f ps)
-
 module _ (p : ℕ → Bool) where
   -- a run and what is left are the whole
   pub cut-joined : (l : List ℕ) → l ≡ cut p l .value ++ cut p l .rest
@@ -122,8 +112,8 @@ module _ (p : ℕ → Bool) where
   -- bytes that pass are taken before one that does not
   run-exact : {xs ys : List ℕ} → Run p xs → Stops p ys → run p (xs ++ ys) ≡ length xs
   unfolding run
-  run-exact none s = run-stop s
-  run-exact (more e es) s = rw (e, run-exact es s)
+  run-exact every-none s = run-stop s
+  run-exact (every-more e es) s = rw (e, run-exact es s)
 
   -- and are the run
   pub cut-exact : {xs ys : List ℕ} → Run p xs → Stops p ys → cut p (xs ++ ys) ≡ read xs ys

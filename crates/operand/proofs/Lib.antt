@@ -1,3 +1,4 @@
+-- Laws of operands. Assumes nothing.
 pub mod Blanks
 pub mod Decimals
 pub mod Fractions

@@ -16,7 +16,7 @@ use Rattle.operand.specs.declared.Name.the-variants.{MessageType as type
 use Rattle.operand.specs.Tests.{StandsFor, type, attribute, path, peer, network, time, meaning}
 
 -- what is found is meant
-pub meaning-holds : (k : Name) (v : List ℕ) → Holds (StandsFor k v) (meaning k v)
+meaning-holds : (k : Name) (v : List ℕ) → Holds (StandsFor k v) (meaning k v)
 unfolding meaning
 meaning-holds typeName v = holds-onward (coded-sound typeNames v) (λ c x. held (type x))
 meaning-holds attributeName v = holds-onward (coded-sound attributeNames v) (λ c x. held (attribute x))

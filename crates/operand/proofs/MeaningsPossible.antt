@@ -33,7 +33,7 @@ use Rattle.operand.specs.Tests.{StandsFor, type, attribute, path, peer, 
 -- ---- codes
 
 -- the codes of a table are bytes
-unfoldable pub smallCodes : List (Row ℕ) → Bool
+unfoldable smallCodes : List (Row ℕ) → Bool
 smallCodes [] = true
 smallCodes (n ∷ ns) = pick (ltb (n .value) 256) (smallCodes ns) false
 
@@ -61,7 +61,7 @@ attributes-small = refl
 -- ---- addresses, networks, peers
 
 -- an address has 32 bits
-pub address-word : {l : List ℕ} {a : ℕ} → Address l a → Bits32 a
+address-word : {l : List ℕ} {a : ℕ} → Address l a → Bits32 a
 address-word x = record { below = omega (arith, x .a-is .below, x .b-is .below, x .c-is .below, x .d-is .below, x .value) }
 
 -- a network has at most 32 bits, those past its length clear

@@ -1,15 +1,14 @@
 -- Addresses, networks and peers. Assumes nothing.
-use Prim.Native.Nat.{ℕ, _+_}
+use Prim.Native.Nat.{ℕ}
 use mathlib.Core.Path.{_≡_, refl, _∙_}
 use mathlib.Core.Option.{some}
 use mathlib.Core.List.{List, _∷_, _++_, append-assoc}
-use Rattle.operand.specs.Decimals.{Below}
+use Rattle.operand.specs.Decimals.{Below, isDigit}
 use Rattle.operand.proofs.Holding.{Holds, held, holds-onward}
 use Rattle.operand.proofs.FrontReads.{Got, Stops, other, after-sound, after-complete}
 use Rattle.operand.proofs.Decimals.{number-sound, number-complete}
 use Rattle.operand.specs.Addresses.{Address, partRead, addressRead}
 use Rattle.operand.specs.Fronts.{Read, read}
-use Rattle.operand.specs.Decimals.{isDigit}
 
 -- ---- a part of an address and its dot
 

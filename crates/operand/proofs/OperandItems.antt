@@ -6,10 +6,12 @@ use mathlib.Core.Bool.{Bool}
 use mathlib.Core.Option.{Option, none, some}
 use mathlib.Core.List.{List, [], _∷_, _++_, append-assoc}
 use lib.ListN.{length, length-append}
+use Rattle.octets.specs.Lists.{Every, every-none, every-more}
+use Rattle.octets.proofs.Every.{every-append}
 use Rattle.aspath.specs.declared.Item.{Item}
-use Rattle.token.specs.Texts.{Blank, Every, none, more}
+use Rattle.token.specs.Texts.{Blank}
 use Rattle.operand.proofs.Holding.{Holds, nothing, held, holds-onward, holds-else, holds-map}
-use Rattle.operand.proofs.FrontReads.{Got, Run, Stops, end, other, after-sound, run-append, cut-joined, cut-run, cut-exact}
+use Rattle.operand.proofs.FrontReads.{Got, Run, Stops, end, other, after-sound, cut-joined, cut-run, cut-exact}
 use Rattle.operand.proofs.Decimals.{decimal-some, number-sound, number-complete, number-none}
 use Rattle.operand.proofs.Blanks.{blanks-sound, blanks-complete, digit-no-blank, blank-stops, decimal-stops}
 use Rattle.operand.specs.Patterns.{ItemText, a-number, not-it, any, ItemsText, empty, last, more, itemRead, followed, firstItem, itemsRead, allItems}
@@ -20,7 +22,7 @@ use Rattle.operand.specs.Decimals.{isDigit}
 -- ---- an item
 
 -- an item that was read stands at the front
-pub item-sound : (l : List ℕ) → Holds (Got ItemText l) (itemRead l)
+item-sound : (l : List ℕ) → Holds (Got ItemText l) (itemRead l)
 unfolding itemRead
 item-sound l =
     holds-else (holds-onward (number-sound (2 ^ 32) l) (λ n g. held (record { text = g .text; joined = g .joined; says = a-number (g .says) })))
@@ -28,7 +30,7 @@ item-sound l =
     (holds-onward (after-sound 33 l) (λ r e. holds-onward (number-sound (2 ^ 32) r) (λ n g. held (record { text = 33 ∷ g .text; joined = rw (← (g .joined)) e; says = not-it (g .says) })))))
 
 -- and every item before no digit is read
-pub item-complete : {text rest : List ℕ} {i : Item} → ItemText text i → Stops isDigit rest → itemRead (text ++ rest) ≡ some (read i rest)
+item-complete : {text rest : List ℕ} {i : Item} → ItemText text i → Stops isDigit rest → itemRead (text ++ rest) ≡ some (read i rest)
 unfolding itemRead after isDigit
 item-complete (a-number b) s = rw (number-complete b s)
 item-complete {rest = rest} (not-it {bs} b) s = rw (number-none (2 ^ 32) {l = 33 ∷ bs ++ rest} (other refl), number-complete b s)
@@ -77,25 +79,25 @@ extend : {l tail : List ℕ} {r : Read Item} → Got ItemText l r → (gap : Lis
     → {text : List ℕ} {v : List Item} → ItemsText text v → (behind rest : List ℕ) → Every Blank behind → tail ≡ text ++ (behind ++ rest) → Listed l (read (r .value ∷ v) rest)
 extend {r = r} g gap h b e {text} {v = []} x behind rest k j =
     let z : text ≡ [] = no-items x in
-    record { text = g .text; behind = gap ++ behind; joined = g .joined ∙ rw (e, j, z) (simp append-assoc); says = last (g .says); blank = run-append (blanks-sound b) k }
+    record { text = g .text; behind = gap ++ behind; joined = g .joined ∙ rw (e, j, z) (simp append-assoc); says = last (g .says); blank = every-append (blanks-sound b) k }
 extend {r = r} g gap h b e {text} {v = i ∷ is} x behind rest k j =
     record { text = g .text ++ (gap ++ text); behind = behind; joined = g .joined ∙ rw (e, j) (simp append-assoc); says = more (g .says) (blanks-sound b) h x refl; blank = k }
 
 -- items that were read stand at the front
 pub items-sound : (f : ℕ) (l : List ℕ) → Listed l (itemsRead f l)
 unfolding itemsRead
-items-sound zero l = record { text = []; behind = []; joined = refl; says = empty; blank = none }
+items-sound zero l = record { text = []; behind = []; joined = refl; says = empty; blank = every-none }
 items-sound (suc f) l = first (items-sound f) (item-sound l)
   where
     next : ((m : List ℕ) → Listed m (itemsRead f m)) → (r : Read Item) → Got ItemText l r → (gap tail : List ℕ) → Run isBlank gap → r .rest ≡ gap ++ tail
         → Listed l (followed (itemsRead f) (r .value) gap tail)
-    next ih r g [] tail b e = record { text = g .text; behind = []; joined = rw (← e) (g .joined); says = last (g .says); blank = none }
+    next ih r g [] tail b e = record { text = g .text; behind = []; joined = rw (← e) (g .joined); says = last (g .says); blank = every-none }
     next ih r g (y ∷ ys) tail b e =
         let x = ih tail in
         extend {r = r} g (y ∷ ys) (omega arith) b e (x .says) (x .behind) _ (x .blank) (x .joined)
 
     first : ((m : List ℕ) → Listed m (itemsRead f m)) → {o : Option (Read Item)} → Holds (Got ItemText l) o → Listed l (firstItem (itemsRead f) l o)
-    first ih nothing = record { text = []; behind = []; joined = refl; says = empty; blank = none }
+    first ih nothing = record { text = []; behind = []; joined = refl; says = empty; blank = every-none }
     first ih (held {a = r} g) = next ih r g (cut isBlank (r .rest) .value) (cut isBlank (r .rest) .rest) (cut-run isBlank (r .rest)) (cut-joined isBlank (r .rest))
 
 -- ---- the bound on the items
@@ -161,8 +163,8 @@ ends-item (dollar {l}) = rw (number-none (2 ^ 32) (ends-digit (dollar {l = l})))
 
 -- digits stop at blanks and an end
 gap-stops : {gap rest : List ℕ} → Every Blank gap → Stops isDigit rest → Stops isDigit (gap ++ rest)
-gap-stops none s = s
-gap-stops {rest = rest} (more b bs) s = blank-stops (more b bs) (omega arith) rest
+gap-stops every-none s = s
+gap-stops {rest = rest} (every-more b bs) s = blank-stops (every-more b bs) (omega arith) rest
 
 -- nor any items
 ends-items : (f : ℕ) {l : List ℕ} → Ends l → itemsRead f l ≡ read [] l
@@ -175,7 +177,7 @@ items-bounded : (f : ℕ) {before text behind rest : List ℕ} {is : List Item} 
     → itemsRead f (cut isBlank (before ++ (text ++ (behind ++ rest))) .rest) ≡ read is rest
 unfolding itemsRead
 items-bounded f {before} {behind = behind} {rest = rest} b empty k w h =
-    rw (← (append-assoc before behind rest), cut-exact isBlank (blanks-complete (run-append b k)) (ends-blank w)) (ends-items f w)
+    rw (← (append-assoc before behind rest), cut-exact isBlank (blanks-complete (every-append b k)) (ends-blank w)) (ends-items f w)
 items-bounded zero b (last t) k w h = absurd (omega arith)
 items-bounded zero b (more t g s x e) k w h = absurd (omega arith)
 items-bounded (suc f) {before} {text} {behind} {rest} b (last {i = i} t) k w h =
@@ -183,8 +185,8 @@ items-bounded (suc f) {before} {text} {behind} {rest} b (last {i = i} t) k w h =
     (go k)
   where
     go : {gap : List ℕ} → Every Blank gap → followed (itemsRead f) i gap rest ≡ read (i ∷ []) rest
-    go none = refl
-    go (more p ps) = rw (ends-items f w)
+    go every-none = refl
+    go (every-more p ps) = rw (ends-items f w)
 items-bounded (suc f) {before} {text} {behind} {rest} b (more {bs} {gap} {rest = next} {i = i} t g s x e) k w h =
     let m = next ++ (behind ++ rest) in
     let z : text ++ (behind ++ rest) ≡ bs ++ (gap ++ m) = rw e (simp append-assoc) in
@@ -193,8 +195,8 @@ items-bounded (suc f) {before} {text} {behind} {rest} b (more {bs} {gap} {rest =
     (go m g s (rw c at (items-bounded f g x k w (omega arith))))
   where
     go : {gap : List ℕ} (m : List ℕ) {is : List Item} → Every Blank gap → 1 ≤ length gap → itemsRead f m ≡ read is rest → followed (itemsRead f) i gap m ≡ read (i ∷ is) rest
-    go m none h ih = absurd (omega arith)
-    go m (more p ps) h ih = rw ih
+    go m every-none h ih = absurd (omega arith)
+    go m (every-more p ps) h ih = rw ih
 
 -- so are all of them
 pub items-complete : {before text behind rest : List ℕ} {is : List Item} → Every Blank before → ItemsText text is → Every Blank behind → Ends rest

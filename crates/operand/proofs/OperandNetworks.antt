@@ -17,14 +17,14 @@ use Rattle.operand.specs.Addresses.{NetworkText, NetworkOperand, plain, 
 use Rattle.operand.specs.Decimals.{isDigit}
 
 -- a network that was read is written so
-pub network-sound : (l : List ℕ) → Holds (NetworkText l) (networkRead l)
+network-sound : (l : List ℕ) → Holds (NetworkText l) (networkRead l)
 unfolding networkRead
 network-sound l =
     holds-onward (address-sound l) (λ a g. holds-onward (after-sound 47 (a .rest)) (λ r e. holds-onward (numeral-sound 33 r) (λ n b.
     held (record { address = a .value; len = n; addressText = g .text; lenText = r; joined = rw (← e) (g .joined); address-is = g .says; len-is = b; value = refl }))))
 
 -- and every network is read
-pub network-complete : {l : List ℕ} {n : Network} → NetworkText l n → networkRead l ≡ some n
+network-complete : {l : List ℕ} {n : Network} → NetworkText l n → networkRead l ≡ some n
 unfolding networkRead isDigit
 network-complete x =
     rw (x .joined, x .value, address-complete {rest = 47 ∷ x .lenText} (x .address-is) (other refl), after-complete 47 (x .lenText), numeral-complete (x .len-is))

@@ -3,15 +3,17 @@ use Prim.Native.Nat.{ℕ, _^_}
 use native.Mathlib.Omega.{arith}
 use mathlib.Core.Path.{_≡_, refl, sym, ap, _∙_}
 use mathlib.Core.Bool.{Bool, true, false}
-use mathlib.Core.Option.{none, some}
+use mathlib.Core.Option.{some}
 use mathlib.Core.List.{List, [], _∷_, _++_, append-assoc, append-nil}
 use Rattle.octets.specs.Choice.{pick}
+use Rattle.octets.specs.Lists.{Every, every-none}
 use Rattle.octets.proofs.Choices.{never}
+use Rattle.octets.proofs.Every.{every-append}
 use Rattle.aspath.specs.declared.Item.{Item}
 use Rattle.aspath.specs.Patterns.{Pattern}
-use Rattle.token.specs.Texts.{Blank, Every, none}
+use Rattle.token.specs.Texts.{Blank}
 use Rattle.operand.proofs.Holding.{Holds, nothing, held, holds-pick, holds-some}
-use Rattle.operand.proofs.FrontReads.{end, other, optional-sound, optional-yes, optional-not, run-append, cut-joined, cut-run, cut-exact, cut-again}
+use Rattle.operand.proofs.FrontReads.{end, other, optional-sound, optional-yes, optional-not, cut-joined, cut-run, cut-exact, cut-again}
 use Rattle.operand.proofs.Blanks.{blanks-sound, blanks-complete}
 use Rattle.operand.proofs.Decimals.{number-none}
 use Rattle.operand.proofs.OperandItems.{Listed, at-end, dollar, items-sound, items-complete}
@@ -71,7 +73,7 @@ items-left : (e : Bool) {before text behind after′ : List ℕ} {is : List Item
 items-left true b x k a = items-complete b x k dollar
 items-left false {before} {text} {behind} {after′} b x k a =
     let z : behind ++ after′ ≡ (behind ++ after′) ++ [] = sym (append-nil (behind ++ after′)) in
-    rw z (items-complete b x (run-append k a) at-end)
+    rw z (items-complete b x (every-append k a) at-end)
 
 -- a pattern that is not wholly empty is found so
 notEmpty-of : (s e : Bool) (is : List Item) → (s ≡ false → e ≡ false → is ≡ [] → ⊥) → notEmpty s is e ≡ true
@@ -90,7 +92,7 @@ closed-complete : (s e : Bool) (is : List Item) {after′ : List ℕ} → Every 
 closed-complete s true is {after′} a f =
     let z : cut isBlank after′ ≡ read after′ [] = rw (append-nil after′) at (cut-exact isBlank (blanks-complete a) end) in
     rw (optional-yes 36 after′, notEmpty-of s true is f, z)
-closed-complete s false is a f = rw (optional-not 36 {l = []} (λ r e. no-byte e), notEmpty-of s false is f, cut-exact isBlank none end)
+closed-complete s false is a f = rw (optional-not 36 {l = []} (λ r e. no-byte e), notEmpty-of s false is f, cut-exact isBlank every-none end)
 
 -- from the items on a pattern is read
 opened-complete : (s e : Bool) (l : List ℕ) {m after′ : List ℕ} {is : List Item} → Every Blank after′ → (s ≡ false → e ≡ false → is ≡ [] → ⊥)
@@ -122,7 +124,7 @@ pattern-by true e {between = between} {text} {behind} {after′} b c x k a n =
 pattern-by false e {before} {between} {text} {behind} {after′} {is} b c x k a n =
     let w : List ℕ = text ++ (behind ++ (pick e (36 ∷ []) [] ++ after′)) in
     let m : List ℕ = cut isBlank (before ++ (between ++ w)) .rest in
-    let r : allItems m ≡ read is (left e after′) = rw (← (append-assoc before between w)) (items-left e (run-append b c) x k a) in
+    let r : allItems m ≡ read is (left e after′) = rw (← (append-assoc before between w)) (items-left e (every-append b c) x k a) in
     opened-complete false e _ {m = m} a n (optional-not 94 (no-caret e m after′ r)) (rw (cut-again isBlank (before ++ (between ++ w))) r)
 
 -- no pattern is missed

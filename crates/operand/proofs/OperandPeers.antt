@@ -6,9 +6,10 @@ use mathlib.Core.Option.{Option, none, some}
 use mathlib.Core.Bool.{Bool, true}
 use mathlib.Core.List.{List, [], _∷_, _++_, append-assoc, append-nil}
 use lib.ListN.{length}
+use Rattle.octets.specs.Lists.{Every, every-none, every-more}
 use Rattle.octets.proofs.Choices.{never}
 use Rattle.program.specs.Readings.{Peer, byBoth}
-use Rattle.token.specs.Texts.{Blank, Every, none, more}
+use Rattle.token.specs.Texts.{Blank}
 use Rattle.operand.specs.Fronts.{Read, read, cut}
 use Rattle.token.specs.Next.{isBlank}
 use Rattle.operand.specs.Decimals.{isDigit}
@@ -31,7 +32,7 @@ peer-sound l = go (address-sound l)
     behind a text (b ∷ bs) j x =
         holds-pick (isBlank b)
         (λ e. holds-onward (numeral-sound (2 ^ 32) (cut isBlank bs .rest))
-        (λ n c. held (by-both x (more (blank-sound b e) (blanks-sound (cut-run isBlank bs))) (omega arith) c (rw (← (cut-joined isBlank bs)) j))))
+        (λ n c. held (by-both x (every-more (blank-sound b e) (blanks-sound (cut-run isBlank bs))) (omega arith) c (rw (← (cut-joined isBlank bs)) j))))
         (λ e. nothing)
 
     go : {o : Option (Read ℕ)} → Holds (Got Address l) o → Holds (PeerOperand l) (peerBy l o)
@@ -40,8 +41,8 @@ peer-sound l = go (address-sound l)
 
 -- a byte of a run passes
 run-at : (p : ℕ → Bool) (xs ys : List ℕ) {b : ℕ} → Run p (xs ++ (b ∷ ys)) → p b ≡ true
-run-at p [] ys (more e es) = e
-run-at p (x ∷ xs) ys (more e es) = run-at p xs ys es
+run-at p [] ys (every-more e es) = e
+run-at p (x ∷ xs) ys (every-more e es) = run-at p xs ys es
 
 -- digits alone are no address
 no-address : {l : List ℕ} → Run isDigit l → addressRead l ≡ none
@@ -65,7 +66,7 @@ peer-complete (by-address {bs} {a} x) =
 peer-complete (by-both {bs} {gap} {cs} {l} {a} {n} x g h b e) = rw (e, address-complete x (blank-stops g h cs)) (go g h)
   where
     go : {blanks : List ℕ} → Every Blank blanks → 1 ≤ length blanks → behindAddress a (blanks ++ cs) ≡ some (byBoth a n)
-    go none h = absurd (omega arith)
-    go (more {b = y} {bs = ys} p ps) h =
+    go every-none h = absurd (omega arith)
+    go (every-more {a = y} {xs = ys} p ps) h =
         let s = rw (append-nil cs) at (decimal-stops isBlank digit-no-blank (b .decimal) []) in
         rw (blank-complete p, cut-exact isBlank (blanks-complete ps) s, numeral-complete b)

@@ -9,19 +9,18 @@ use lib.Dec.{eqb, leb}
 use lib.ListN.{length, getD, drop}
 use borrow.Author.Tests.{eqb-true, leb-true, le-leb}
 use Rattle.program.specs.Readings.{Comparison, below, atMost, above, atLeast}
-use Rattle.operand.specs.Decimals.{Digits, end, more}
+use Rattle.operand.specs.Decimals.{Digits, end, more, isDigit}
 use Rattle.operand.proofs.Holding.{Holds, nothing, held, holds-onward, holds-pick}
 use Rattle.operand.proofs.FrontReads.{Got, got-pick, Stops, end, other, first-is}
 use Rattle.operand.proofs.Decimals.{digit-is, digit-of, number-sound, number-complete}
 use Rattle.operand.proofs.Blanks.{decimal-first}
 use Rattle.operand.specs.Times.{ComparisonText, unsigned, equals, less, at-most, greater, at-least, FractionText, whole, fraction, TimeOperand, orEqual, comparison, anyDigits, fractionOf, Moment, moment, timeOperand}
 use Rattle.operand.specs.Fronts.{read}
-use Rattle.operand.specs.Decimals.{isDigit}
 
 -- ---- the comparison
 
 -- a comparison that was read stands at the front
-pub comparison-sound : (l : List ℕ) → Got ComparisonText l (comparison l)
+comparison-sound : (l : List ℕ) → Got ComparisonText l (comparison l)
 unfolding comparison
 comparison-sound l =
     got-pick (eqb (getD l 0 0) 61) (λ e. record { text = 61 ∷ []; joined = first-is 61 l refl e; says = equals })
@@ -35,7 +34,7 @@ comparison-sound l =
         (λ e. record { text = b ∷ []; joined = j; says = x })
 
 -- no comparison goes on into a digit
-pub comparison-complete : {sign text : List ℕ} {c : Comparison} → ComparisonText sign c → ((b : ℕ) → isDigit b ≡ false → eqb 0 b ≡ false → eqb (getD text 0 0) b ≡ false) → comparison (sign ++ text) ≡ read c text
+comparison-complete : {sign text : List ℕ} {c : Comparison} → ComparisonText sign c → ((b : ℕ) → isDigit b ≡ false → eqb 0 b ≡ false → eqb (getD text 0 0) b ≡ false) → comparison (sign ++ text) ≡ read c text
 unfolding comparison isDigit
 comparison-complete unsigned f = rw (f 61 refl refl, f 60 refl refl, f 62 refl refl)
 comparison-complete equals f = refl
@@ -47,7 +46,7 @@ comparison-complete at-least f = refl
 -- ---- the fraction
 
 -- a number that was read is written so
-pub digits-sound : (n : ℕ) (l : List ℕ) → Holds (Digits n l) (anyDigits n l)
+digits-sound : (n : ℕ) (l : List ℕ) → Holds (Digits n l) (anyDigits n l)
 unfolding anyDigits
 digits-sound n [] = held end
 digits-sound n (b ∷ bs) = holds-pick (isDigit b) (λ e. go e (digits-sound (10 * n + (b - 48)) bs)) (λ e. nothing)
@@ -59,13 +58,13 @@ digits-sound n (b ∷ bs) = holds-pick (isDigit b) (λ e. go e (digits-sound (10
         held (rw (digit-of b e .0) at x)
 
 -- and every number is read
-pub digits-complete : {n m : ℕ} {l : List ℕ} → Digits n l m → anyDigits n l ≡ some m
+digits-complete : {n m : ℕ} {l : List ℕ} → Digits n l m → anyDigits n l ≡ some m
 unfolding anyDigits
 digits-complete end = refl
 digits-complete (more {n} d h x) = let e : 48 + d - 48 ≡ d = omega arith in rw (digit-is d h, e) (digits-complete x)
 
 -- a fraction that was read is written so
-pub fraction-sound : (l : List ℕ) → Holds (FractionText l) (fractionOf l)
+fraction-sound : (l : List ℕ) → Holds (FractionText l) (fractionOf l)
 unfolding fractionOf
 fraction-sound [] = held whole
 fraction-sound (x ∷ bs) =
@@ -73,7 +72,7 @@ fraction-sound (x ∷ bs) =
     holds-onward (digits-sound 0 bs) (λ n h. held (rw (eqb-true x 46 e) (fraction h (leb-true 1 (length bs) f) (leb-true (length bs) 6 g))))) (λ g. nothing)) (λ f. nothing)) (λ e. nothing)
 
 -- and every fraction is read
-pub fraction-complete : {l : List ℕ} {n : ℕ} → FractionText l n → fractionOf l ≡ some n
+fraction-complete : {l : List ℕ} {n : ℕ} → FractionText l n → fractionOf l ≡ some n
 unfolding fractionOf
 fraction-complete whole = refl
 fraction-complete (fraction {bs} h f g) = rw (le-leb 1 (length bs) f, le-leb (length bs) 6 g, digits-complete h)

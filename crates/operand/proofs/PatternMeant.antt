@@ -50,7 +50,7 @@ left-over (b ∷ bs) p n = refl
 
 module _ {s : List ℕ} {start caret first : ℕ} (a : start ≡ runEnd isBlank s 0) (b : OptionalEnd 94 s start caret) (c : first ≡ runEnd isBlank s caret) where
   -- the items stand behind blanks, maybe `^`, and blanks
-  pub listed-at : patternItems s ≡ allItems (drop first s)
+  listed-at : patternItems s ≡ allItems (drop first s)
   listed-at = rw (blanks-left s caret c, b .left, blanks-left s 0 a)
 
   -- so do those of any bytes

@@ -86,12 +86,12 @@ module _ {s : List ℕ} {at : ℕ} {n : Numbers} (x : ReadAt (number (2 ^ 32)) s
 -- ---- items
 
 -- no item, no items
-pub items-none : (l : List ℕ) → itemRead l ≡ none → allItems l ≡ read [] l
+items-none : (l : List ℕ) → itemRead l ≡ none → allItems l ≡ read [] l
 unfolding itemsRead
 items-none l e = items-fuel (length l) (suc (length l)) l (omega arith) (omega arith) ∙ rw e
 
 -- an item, and those behind it
-pub items-some : (l : List ℕ) {r : Read Item} → itemRead l ≡ some r → allItems l ≡ followed allItems (r .value) (cut isBlank (r .rest) .value) (cut isBlank (r .rest) .rest)
+items-some : (l : List ℕ) {r : Read Item} → itemRead l ≡ some r → allItems l ≡ followed allItems (r .value) (cut isBlank (r .rest) .value) (cut isBlank (r .rest) .rest)
 unfolding itemsRead
 items-some l {r} e =
     items-fuel (length l) (suc (length l)) l (omega arith) (omega arith) ∙ rw e (go (cut isBlank (r .rest) .value) (cut isBlank (r .rest) .rest) (omega (arith, cut-shorter isBlank (r .rest), holds-some (item-shorter l) e)))
@@ -102,7 +102,7 @@ items-some l {r} e =
 
 module _ {s : List ℕ} {at : ℕ} {r : ItemRead} (x : ItemAt s at r) where
   -- no item stands at a place
-  pub items-missing : r ≡ Missing → allItems (drop at s) ≡ read [] (drop at s)
+  items-missing : r ≡ Missing → allItems (drop at s) ≡ read [] (drop at s)
   items-missing e = items-none (drop at s) (sym (x .said) ∙ ap (itemLeft s) e)
 
   module _ {i : Item} {e q : ℕ} (is : r ≡ Found i e) (b : q ≡ runEnd isBlank s e) where
@@ -111,7 +111,7 @@ module _ {s : List ℕ} {at : ℕ} {r : ItemRead} (x : ItemAt s at r) where
     found = rw (blanks-left s e b) (items-some (drop at s) (sym (x .said) ∙ ap (itemLeft s) is))
 
     -- an item with no blank behind it is the last
-    pub items-last : q ≡ e → allItems (drop at s) ≡ read (i ∷ []) (drop q s)
+    items-last : q ≡ e → allItems (drop at s) ≡ read (i ∷ []) (drop q s)
     items-last z = found ∙ go (cut isBlank (drop e s) .value) (blanks-count s e b)
       where
         go : (gap : List ℕ) → length gap + e ≡ q → followed allItems i gap (drop q s) ≡ read (i ∷ []) (drop q s)
@@ -119,7 +119,7 @@ module _ {s : List ℕ} {at : ℕ} {r : ItemRead} (x : ItemAt s at r) where
         go (g ∷ gs) h = absurd (omega arith)
 
     -- items stand behind one with blanks behind it
-    pub items-more : (q ≡ e → ⊥) → allItems (drop at s) ≡ read (i ∷ allItems (drop q s) .value) (allItems (drop q s) .rest)
+    items-more : (q ≡ e → ⊥) → allItems (drop at s) ≡ read (i ∷ allItems (drop q s) .value) (allItems (drop q s) .rest)
     items-more n = found ∙ go (cut isBlank (drop e s) .value) (blanks-count s e b)
       where
         go : (gap : List ℕ) → length gap + e ≡ q → followed allItems i gap (drop q s) ≡ read (i ∷ allItems (drop q s) .value) (allItems (drop q s) .rest)

@@ -3,18 +3,20 @@ use Prim.Native.Nat.{ℕ, _^_, _<_}
 use native.Mathlib.Omega.{arith}
 use mathlib.Core.Path.{_≡_, refl}
 use mathlib.Core.Bool.{false}
-use mathlib.Core.List.{List, [], _∷_}
+use mathlib.Core.List.{List, [], _∷_, _++_}
 use Rattle.network.specs.Networks.{masked}
+use Rattle.aspath.specs.Patterns.{Pattern}
 use Rattle.aspath.specs.declared.Item.{Item}
 use Rattle.aspath.specs.declared.Item.the-variants.{Any}
 use Rattle.program.specs.Readings.{byAs, eitherSide, equal, Test, typeIs, hasAttribute, pathMatches, peerIs, networkIs, timeIs}
-use Rattle.token.specs.Texts.{none}
+use Rattle.octets.specs.Choice.{pick}
+use Rattle.octets.specs.Lists.{every-none}
 use Rattle.octets.specs.Decimal.{digit}
 use Rattle.operand.specs.Decimals.{Below}
 use Rattle.operand.specs.Codes.{by-code}
 use Rattle.operand.specs.Peers.{by-as}
 use Rattle.operand.specs.Addresses.{plain}
-use Rattle.operand.specs.Patterns.{any, last}
+use Rattle.operand.specs.Patterns.{ItemsText, any, last, PatternOperand}
 use Rattle.operand.specs.Times.{unsigned, whole}
 use Rattle.operand.specs.declared.Name.{Name}
 use Rattle.operand.specs.declared.Name.the-variants.{MessageType as typeName, Attribute as attributeName, Path as pathName, Peer as peerName, Time as timeName, Network as networkName}
@@ -41,25 +43,30 @@ sampleTest (networkName r) = networkIs r (masked 32 0 0) eitherSide
 zero-below : (limit : ℕ) → 0 < limit → Below limit (48 ∷ []) 0
 zero-below limit h = record { decimal = digit 0 (omega arith); below = h }
 
+-- a pattern with no blank before, between or behind its parts
+pub unspaced : (p : Pattern) {text : List ℕ} → ItemsText text (p .items) → (p .start ≡ false → p .end ≡ false → p .items ≡ [] → ⊥)
+    → PatternOperand (pick (p .start) (94 ∷ []) [] ++ (text ++ (pick (p .end) (36 ∷ []) [] ++ []))) p
+unspaced p {text} i f = record {
+  before = [];
+  between = [];
+  text = text;
+  behind = [];
+  after = [];
+  joined = refl;
+  before-blank = every-none;
+  between-blank = every-none;
+  behind-blank = every-none;
+  after-blank = every-none;
+  items-are = i;
+  not-empty = f;
+}
+
 -- what each of these means
 pub sample : (k : Name) → StandsFor k (sampleText k) (sampleTest k)
 sample typeName = type (by-code (zero-below 256 (omega arith)))
 sample attributeName = attribute (by-code (zero-below 256 (omega arith)))
 sample pathName =
-    path (record {
-      before = [];
-      between = [];
-      text = 46 ∷ [];
-      behind = [];
-      after = [];
-      joined = refl;
-      before-blank = none;
-      between-blank = none;
-      behind-blank = none;
-      after-blank = none;
-      items-are = last any;
-      not-empty = λ s e i. no-item i;
-    })
+    path (unspaced (record { start = false; items = Any ∷ []; end = false }) (last any) (λ s e i. no-item i))
   where
     no-item : _≡_ {A = List Item} (Any ∷ []) [] → ⊥
     no-item e = let z : _≡_ {A = ℕ} 0 1 = cc in omega arith

@@ -72,7 +72,7 @@ abbrev pub sided : Side → Network → Sided
 sided s n = record { side = s; network = n }
 
 -- the network that these bytes write, on a side
-abbrev pub sideOf : Side → List ℕ → Option Sided
+abbrev sideOf : Side → List ℕ → Option Sided
 sideOf s l = onward (networkRead l) (λ n. some (sided s n))
 
 -- the side by the first byte

@@ -1,3 +1,4 @@
+-- What operands are: how each kind is written, and the test that each stands for.
 pub mod Fronts
 pub mod Decimals
 pub mod Codes

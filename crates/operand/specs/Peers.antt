@@ -5,8 +5,9 @@ use mathlib.Core.Option.{Option, none, some}
 use mathlib.Core.List.{List, [], _∷_, _++_}
 use lib.ListN.{length}
 use Rattle.octets.specs.Choice.{pick}
+use Rattle.octets.specs.Lists.{Every}
 use Rattle.program.specs.Readings.{Peer, byAs, byAddress, byBoth}
-use Rattle.token.specs.Texts.{Blank, Every}
+use Rattle.token.specs.Texts.{Blank}
 use Rattle.operand.specs.Fronts.{onward, Read, cut}
 use Rattle.token.specs.Next.{isBlank}
 use Rattle.operand.specs.Decimals.{AsNumber, numeral}

@@ -39,7 +39,7 @@ _also_ : {p : Pair} {ps : List Pair} → Shown p → Each ps → Each (p ∷ ps)
 _also_ {p} s e = more (holds p s) e
 
 -- ! -loops
-abbrev pub notLoopsText : List ℕ
+abbrev notLoopsText : List ℕ
 notLoopsText = 33 ∷ 32 ∷ 45 ∷ 108 ∷ 111 ∷ 111 ∷ 112 ∷ 115 ∷ []
 
 not-loops-computed : Computed true notLoopsText (neg (test hasLoop)) 2

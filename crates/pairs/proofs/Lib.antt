@@ -1,3 +1,4 @@
+-- The known pairs hold. Assumes nothing.
 pub mod RecordR
 pub mod Texts
 pub mod KnownPairs

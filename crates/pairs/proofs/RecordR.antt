@@ -39,7 +39,7 @@ small-octets l e = record { below = go l e }
     go (b ∷ bs) e (suc i) = go bs (each (ltb b 256) (small bs) e .1) i
 
 -- R is bytes
-pub record-octets : Octets recordR
+record-octets : Octets recordR
 unfolding small recordR
 record-octets = small-octets recordR refl
 

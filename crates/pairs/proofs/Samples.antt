@@ -7,11 +7,11 @@ use Rattle.truth.specs.Verdict.{Drops}
 use Rattle.pairs.proofs.Texts.{answerFor, truthOnR, TextOnR, drops}
 
 -- -loops
-abbrev pub loopsText : List ℕ
+abbrev loopsText : List ℕ
 loopsText = 45 ∷ 108 ∷ 111 ∷ 111 ∷ 112 ∷ 115 ∷ []
 
 -- -bogon-asn
-abbrev pub bogonText : List ℕ
+abbrev bogonText : List ℕ
 bogonText = 45 ∷ 98 ∷ 111 ∷ 103 ∷ 111 ∷ 110 ∷ 45 ∷ 97 ∷ 115 ∷ 110 ∷ []
 
 pub loops : TextOnR Drops loopsText (test hasLoop) 1

@@ -14,9 +14,8 @@ use Rattle.message.specs.Message.{Message}
 use Rattle.program.specs.Readings.{Test, Reading, itemCount, weight, verdict, steps}
 use Rattle.program.specs.Layout.{recordSize}
 use Rattle.token.specs.Lexer.{sort, lex}
-use Rattle.token.specs.Next.{run}
+use Rattle.token.specs.Next.{run, isBlank}
 use Rattle.operand.specs.Fronts.{after, optional, cut}
-use Rattle.token.specs.Next.{isBlank}
 use Rattle.operand.specs.Decimals.{isDigit, numberOn, number, numeral}
 use Rattle.octets.specs.Equal.{same}
 use Rattle.names.specs.Tables.{found}

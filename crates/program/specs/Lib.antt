@@ -1,3 +1,4 @@
+-- What programs are: readings, the records that stand for them, the machine, and which programs are valid.
 pub mod Readings
 pub mod Records
 pub mod Layout

@@ -1,3 +1,4 @@
+-- Laws of runs. Assumes nothing.
 pub mod Records
 pub mod RunOver
 pub mod Behind

@@ -1,67 +1,44 @@
 -- Which bytes a text may have, as a test, and the place of the first that it may not. Assumes nothing.
-use Prim.Native.Nat.{ℕ, zero, suc, _≤_, _<_}
+use Prim.Native.Nat.{ℕ, _≤_, _<_}
 use native.Mathlib.Omega.{arith}
 use native.Mathlib.Decide.{decLe}
 use native.Mathlib.Nat.{lt-of-not-le}
 use mathlib.Core.Path.{_≡_, refl, sym, _∙_}
-use mathlib.Core.Bool.{Bool, true, false}
-use mathlib.Core.List.{List, [], _∷_}
-use mathlib.Core.Logic.{_⊎_, inl, inr, _↔_}
+use mathlib.Core.Bool.{true, false}
+use mathlib.Core.List.{List}
+use mathlib.Core.Logic.{_↔_}
 use lib.Dec.{leb, eqb}
 use lib.ListN.{length, getD}
 use lib.Seq.{take-all, getD-take}
 use borrow.Author.Tests.{eqb-true, leb-true, le-leb}
 use Rattle.octets.specs.Choice.{pick}
+use Rattle.octets.specs.Lists.{Every}
 use Rattle.octets.proofs.Choices.{never, either, second, each}
-use Rattle.token.specs.Texts.{Allowed, printed, tab, lineFeed, Every, none, more, Forbidden, allowed}
+use Rattle.octets.proofs.Every.{every-place}
+use Rattle.token.specs.Texts.{Allowed, printed, tab, lineFeed, Forbidden, allowed}
 use Rattle.token.specs.Next.{allowedFront}
 use Rattle.token.proofs.Runs.{run-within, run-behind, run-every, run-whole, run-long}
 
 -- what the test allows is allowed
-pub allowed-sound : (b : ℕ) → allowed b ≡ true → Allowed b
+allowed-sound : (b : ℕ) → allowed b ≡ true → Allowed b
 allowed-sound b e =
     either (eqb b 9) (pick (eqb b 10) true (pick (leb 32 b) (leb b 126) false)) e (λ t. rw (eqb-true b 9 t) tab)
     (λ f. either (eqb b 10) (pick (leb 32 b) (leb b 126) false) f (λ t. rw (eqb-true b 10 t) lineFeed)
     (λ g. let r = each (leb 32 b) (leb b 126) g in printed (leb-true 32 b (r .0)) (leb-true b 126 (r .1))))
 
 -- and nothing else is
-pub allowed-complete : {b : ℕ} → Allowed b → allowed b ≡ true
+allowed-complete : {b : ℕ} → Allowed b → allowed b ≡ true
 allowed-complete tab = refl
 allowed-complete lineFeed = refl
 allowed-complete (printed {b} h k) = second (eqb b 9) (second (eqb b 10) (rw (le-leb 32 b h, le-leb b 126 k)))
 
 -- a byte that the test refuses is forbidden
-pub allowed-not : (b : ℕ) → allowed b ≡ false → Allowed b → ⊥
+allowed-not : (b : ℕ) → allowed b ≡ false → Allowed b → ⊥
 allowed-not b e a = never (sym e ∙ allowed-complete a)
 
--- every member, by its place
-pub every-place : {P : ℕ → Type 0} {l : List ℕ} → Every P l → (i : ℕ) → i < length l → P (getD l i 0)
-every-place none i h = absurd (omega arith)
-every-place (more p ps) zero h = p
-every-place (more p ps) (suc i) h = every-place ps i (omega arith)
-
--- where each place says so, every member is
-pub every-places : {P : ℕ → Type 0} (l : List ℕ) → ((i : ℕ) → i < length l → P (getD l i 0)) → Every P l
-every-places [] f = none
-every-places (b ∷ bs) f = more (f 0 (omega arith)) (every-places bs (λ i h. f (suc i) (omega arith)))
-
--- all bytes are allowed, or one is the first that isn't
-pub forbidden-or : (text : List ℕ) → Every Allowed text ⊎ ((p : ℕ) × Forbidden text p)
-forbidden-or [] = inl none
-forbidden-or (b ∷ bs) = go (allowed b) refl (forbidden-or bs)
-  where
-    later : {p : ℕ} → allowed b ≡ true → Forbidden bs p → (i : ℕ) → i < suc p → Allowed (getD (b ∷ bs) i 0)
-    later e f zero h = allowed-sound b e
-    later e f (suc i) h = f .earlier i (omega arith)
-
-    go : (t : Bool) → allowed b ≡ t → Every Allowed bs ⊎ ((p : ℕ) × Forbidden bs p) → Every Allowed (b ∷ bs) ⊎ ((p : ℕ) × Forbidden (b ∷ bs) p)
-    go false e r = inr (0, record { within = omega arith; earlier = λ i h. absurd (omega arith); here = allowed-not b e })
-    go true e (inl a) = inl (more (allowed-sound b e) a)
-    go true e (inr (p, f)) = inr (suc p, record { within = omega (arith, f .within); earlier = later e f; here = f .here })
-
--- not both
+-- where every byte is allowed none is forbidden
 pub forbidden-none : {text : List ℕ} {p : ℕ} → Forbidden text p → Every Allowed text → ⊥
-forbidden-none {p = p} f a = f .here (every-place a p (f .within))
+forbidden-none {p = p} f a = f .here (every-place a 0 p (f .within))
 
 -- the first is one
 pub forbidden-once : {text : List ℕ} {p q : ℕ} → Forbidden text p → Forbidden text q → p ≡ q
@@ -90,6 +67,6 @@ front-forbidden text = (go, λ f. f .within)
     go h = record {
       within = h;
       earlier = λ i k. rw (getD-take (allowedFront text) text i 0 k) at
-          (every-place (run-every allowed allowed-sound text) i (omega (arith, run-long allowed text)));
+          (every-place (run-every allowed allowed-sound text) 0 i (omega (arith, run-long allowed text)));
       here = allowed-not (getD text (allowedFront text) 0) (run-behind allowed text h);
     }

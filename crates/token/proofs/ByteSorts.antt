@@ -6,7 +6,7 @@ use mathlib.Core.List.{List, [], _∷_, _++_}
 use lib.Dec.{eqb}
 use borrow.Author.Tests.{eqb-true, eqb-false, ne-eqb}
 use Rattle.octets.specs.Choice.{pick}
-use Rattle.token.specs.Texts.{Blank, space, tab, lineFeed, Every, none, more}
+use Rattle.token.specs.Texts.{Blank, space, tab, lineFeed}
 use Rattle.token.specs.Tokens.{Token, open′, close, bang, Mark, opening, closing, banging, Letter, Inner, Stops, at-end, before}
 use Rattle.token.specs.Lexer.{Sort, blank, quote, letter, mark, sort}
 
@@ -97,8 +97,3 @@ stops-front (x ∷ xs) ys (before n) = before n
 pub stops-append : {xs ys : List ℕ} → Stops xs → Stops ys → Stops (xs ++ ys)
 stops-append at-end t = t
 stops-append (before n) t = before n
-
--- one more behind
-pub every-behind : {P : ℕ → Type 0} {bs : List ℕ} {b : ℕ} → Every P bs → P b → Every P (bs ++ (b ∷ []))
-every-behind none h = more h none
-every-behind (more k a) h = more k (every-behind a h)

@@ -5,10 +5,12 @@ use native.Mathlib.Nat.{add-zero}
 use mathlib.Core.Path.{_≡_, refl, sym, ap, _∙_}
 use mathlib.Core.List.{List, [], _∷_, _++_, append-assoc, append-nil}
 use lib.ListN.{length, length-append}
-use Rattle.token.specs.Texts.{Blank, Every, none}
+use Rattle.octets.specs.Lists.{Every, every-none, every-more}
+use Rattle.octets.proofs.Every.{every-append}
+use Rattle.token.specs.Texts.{Blank}
 use Rattle.token.specs.Tokens.{Word, Token, word, quoted, Mark, Letter, Inner, Stops, at-end, Placed, placed, Lexes, nothing, blanks, marks, words, quotes}
 use Rattle.token.specs.Lexer.{Sort, blank, quote, letter, mark, sort, Lexed, tokens, unclosed, Mode, between, in-word, in-quote, eat, emit, lex}
-use Rattle.token.proofs.ByteSorts.{OfSort, sort-sound, other-stops, other-inner, stops-front, every-behind}
+use Rattle.token.proofs.ByteSorts.{OfSort, sort-sound, other-stops, other-inner, stops-front}
 use Rattle.token.proofs.Lexer.{lex-eat, emit-none, quote-step, word-stop, lex-blank, lex-mark}
 
 -- an unclosed quote in bytes, the first of them at the place n
@@ -97,8 +99,8 @@ between-sound : (n b : ℕ) (bs : List ℕ) → Rest n bs → (k : Sort) → OfS
 unfolding eat
 between-sound n b bs g blank h = same (lex-blank n bs h) (right-blank h (g between tt))
 between-sound n b bs g (mark t) h = same (lex-mark n bs h) (right-mark h (g between tt))
-between-sound n b bs g quote h = same (lex-eat between n b bs quote h ∙ emit-none _) (rw h (g (in-quote n []) (none, omega arith)))
-between-sound n b bs g letter h = same (lex-eat between n b bs letter h ∙ emit-none _) (g (in-word n b []) (h, none, omega arith))
+between-sound n b bs g quote h = same (lex-eat between n b bs quote h ∙ emit-none _) (rw h (g (in-quote n []) (every-none, omega arith)))
+between-sound n b bs g letter h = same (lex-eat between n b bs letter h ∙ emit-none _) (g (in-word n b []) (h, every-none, omega arith))
 
 -- a byte that ends a word
 word-ends : (p c : ℕ) (w : Word) (b : ℕ) (bs : List ℕ) → Letter c → Every Letter w → Rest (suc p + length w) bs → (k : Sort) → OfSort b k → (k ≡ letter → ⊥)
@@ -112,7 +114,7 @@ word-sound : (p c : ℕ) (w : Word) (b : ℕ) (bs : List ℕ) → Letter c → E
     → Right p (c ∷ (w ++ (b ∷ bs))) (lex (in-word p c w) (suc p + length w) (b ∷ bs))
 unfolding eat
 word-sound p c w b bs l a g letter h = same (lex-eat (in-word p c w) (suc p + length w) b bs letter h ∙ emit-none _)
-    (rw (append-assoc w (b ∷ []) bs) at (g (in-word p c (w ++ (b ∷ []))) (l, every-behind a h, omega (arith, length-append w (b ∷ [])))))
+    (rw (append-assoc w (b ∷ []) bs) at (g (in-word p c (w ++ (b ∷ []))) (l, every-append a (every-more h every-none), omega (arith, length-append w (b ∷ [])))))
 word-sound p c w b bs l a g blank h = word-ends p c w b bs l a g blank h (λ e. let z : _≡_ {A = ℕ} 0 1 = cc in omega arith)
 word-sound p c w b bs l a g (mark t) h = word-ends p c w b bs l a g (mark t) h (λ e. let z : _≡_ {A = ℕ} 0 1 = cc in omega arith)
 word-sound p c w b bs l a g quote h = word-ends p c w b bs l a g quote h (λ e. let z : _≡_ {A = ℕ} 0 1 = cc in omega arith)
@@ -123,7 +125,7 @@ quote-on : (p : ℕ) (w : Word) (b : ℕ) (bs : List ℕ) → Every Inner w → 
 quote-on p w b bs a g k h n =
     let i : Inner b = other-inner k h n in
     same (quote-step p (suc p + length w) w b bs i)
-    (rw (append-assoc w (b ∷ []) bs) at (g (in-quote p (w ++ (b ∷ []))) (every-behind a i, omega (arith, length-append w (b ∷ [])))))
+    (rw (append-assoc w (b ∷ []) bs) at (g (in-quote p (w ++ (b ∷ []))) (every-append a (every-more i every-none), omega (arith, length-append w (b ∷ [])))))
 
 -- a byte behind an opened quote
 quote-sound : (p : ℕ) (w : Word) (b : ℕ) (bs : List ℕ) → Every Inner w → Rest (suc p + length w) bs → (k : Sort) → OfSort b k

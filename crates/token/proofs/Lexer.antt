@@ -5,7 +5,8 @@ use native.Mathlib.Nat.{add-zero}
 use mathlib.Core.Path.{_≡_, refl, sym, ap, _∙_}
 use mathlib.Core.List.{List, [], _∷_, _++_, append-assoc, append-nil}
 use lib.ListN.{length}
-use Rattle.token.specs.Texts.{Blank, Every, none, more}
+use Rattle.octets.specs.Lists.{Every, every-none, every-more}
+use Rattle.token.specs.Texts.{Blank}
 use Rattle.token.specs.Tokens.{Word, Token, word, quoted, Mark, Letter, Inner, Stops, at-end, before, Placed, placed}
 use Rattle.token.specs.Lexer.{Sort, blank, quote, letter, mark, sort, Lexed, tokens, unclosed, Mode, between, in-word, in-quote, eat, emit, lex}
 use Rattle.token.proofs.ByteSorts.{OfSort, sort-sound, sort-complete}
@@ -42,15 +43,15 @@ quote-step p n v b bs i = by-sort (sort b) (sort-sound b)
 
 -- bytes in quotes
 quote-run : (p n : ℕ) (v : Word) {q : Word} (bs : List ℕ) → Every Inner q → lex (in-quote p v) n (q ++ bs) ≡ lex (in-quote p (v ++ q)) (n + length q) bs
-quote-run p n v bs none = rw (append-nil v, add-zero n)
-quote-run p n v bs (more {b = b} {bs = q} i a) = quote-step p n v b (q ++ bs) i ∙ (quote-run p (suc n) (v ++ (b ∷ [])) bs a
+quote-run p n v bs every-none = rw (append-nil v, add-zero n)
+quote-run p n v bs (every-more {a = b} {xs = q} i a) = quote-step p n v b (q ++ bs) i ∙ (quote-run p (suc n) (v ++ (b ∷ [])) bs a
     ∙ rw (append-assoc v (b ∷ []) q) (ap (λ k. lex (in-quote p (v ++ (b ∷ q))) k bs) (omega arith)))
 
 -- letters of a word
 word-run : (p c n : ℕ) (v : Word) {w : Word} (bs : List ℕ) → Every Letter w → lex (in-word p c v) n (w ++ bs) ≡ lex (in-word p c (v ++ w)) (n + length w) bs
 unfolding eat
-word-run p c n v bs none = rw (append-nil v, add-zero n)
-word-run p c n v bs (more {b = b} {bs = w} i a) = lex-eat (in-word p c v) n b (w ++ bs) letter i ∙ (emit-none _ ∙ (word-run p c (suc n) (v ++ (b ∷ [])) bs a
+word-run p c n v bs every-none = rw (append-nil v, add-zero n)
+word-run p c n v bs (every-more {a = b} {xs = w} i a) = lex-eat (in-word p c v) n b (w ++ bs) letter i ∙ (emit-none _ ∙ (word-run p c (suc n) (v ++ (b ∷ [])) bs a
     ∙ rw (append-assoc v (b ∷ []) w) (ap (λ k. lex (in-word p c (v ++ (b ∷ w))) k bs) (omega arith))))
 
 -- a word ends

@@ -1,5 +1,5 @@
 -- Each text is written with tokens in exactly one way, or has exactly one unclosed quote; the lexer tells which. Assumes nothing.
-use Prim.Native.Nat.{ℕ, _+_}
+use Prim.Native.Nat.{ℕ, _+_, _<_}
 use native.Mathlib.Omega.{arith}
 use native.Mathlib.Nat.{add-zero, zero-add}
 use mathlib.Core.Path.{_≡_, sym, ap, _∙_}
@@ -13,7 +13,7 @@ use Rattle.token.proofs.Lexer.{emit-none, emit-more, lex-nothing, lex-b
 use Rattle.token.proofs.LexSound.{UnclosedFrom, Right, lexes, opens, right}
 
 -- the tokens of a front, then what is read behind it
-pub lex-front : {n : ℕ} {front : List ℕ} {ts : List Placed} → Lexes n front ts → {rest : List ℕ} → Stops rest
+lex-front : {n : ℕ} {front : List ℕ} {ts : List Placed} → Lexes n front ts → {rest : List ℕ} → Stops rest
     → lex between n (front ++ rest) ≡ emit ts (lex between (n + length front) rest)
 lex-front (nothing {n}) {rest} s = rw (add-zero n) (sym (emit-none _))
 lex-front (blanks {n} {ts = ts} k d) {rest} s = lex-blank n _ k ∙ (lex-front d s ∙ ap (λ i. emit ts (lex between i rest)) (omega arith))
@@ -41,12 +41,12 @@ lex-sound {n} {bs} e = go (rw e at (right n bs))
     go (lexes d) = d
 
 -- an unclosed quote is read so
-pub open-complete : {n : ℕ} {bs : List ℕ} {p : ℕ} → UnclosedFrom n bs p → lex between n bs ≡ unclosed p
+open-complete : {n : ℕ} {bs : List ℕ} {p : ℕ} → UnclosedFrom n bs p → lex between n bs ≡ unclosed p
 unfolding emit
 open-complete u = rw (u .joined) (lex-front (u .lexed) quote-stops ∙ ap (emit (u .tokens)) (lex-open _ (u .inner) ∙ ap unclosed (u .placed)))
 
 -- and what is read so is one
-pub open-sound : {n : ℕ} {bs : List ℕ} {p : ℕ} → lex between n bs ≡ unclosed p → UnclosedFrom n bs p
+open-sound : {n : ℕ} {bs : List ℕ} {p : ℕ} → lex between n bs ≡ unclosed p → UnclosedFrom n bs p
 open-sound {n} {bs} e = go (rw e at (right n bs))
   where
     go : {q : ℕ} → Right n bs (unclosed q) → UnclosedFrom n bs q
@@ -97,3 +97,7 @@ pub lexes-append : {n : ℕ} {front rest : List ℕ} {ts us : List Placed} → L
     → Lexes n (front ++ rest) (ts ++ us)
 unfolding emit
 lexes-append {ts = ts} d s e = lex-sound (lex-front d s ∙ ap (emit ts) (lex-complete e))
+
+-- it stands within the text
+pub unclosed-within : {text : List ℕ} {p : ℕ} → Unclosed text p → p < length text
+unclosed-within u = omega (arith, u .placed, ap length (u .joined), length-append (u .front) (39 ∷ u .rest))

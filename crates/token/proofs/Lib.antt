@@ -1,8 +1,8 @@
+-- Laws of texts and their tokens. Assumes nothing.
 pub mod Again
 pub mod AllowedBytes
 pub mod ByteSorts
 pub mod ByteTests
-pub mod LexPlaces
 pub mod LexSound
 pub mod Lexer
 pub mod Lexing

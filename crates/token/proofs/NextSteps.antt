@@ -40,7 +40,7 @@ pub data Step (text : List ℕ) (at : ℕ) : Lexeme → Type 0 where
   takes : {l : Lexeme} {t : Token} → Takes text at l t → Step text at l
 
 -- the bytes from a place on are the one there and those after it
-pub byte-first : (text : List ℕ) (p : ℕ) → p < length text → drop p text ≡ getD text p 0 ∷ drop (p + 1) text
+byte-first : (text : List ℕ) (p : ℕ) → p < length text → drop p text ≡ getD text p 0 ∷ drop (p + 1) text
 byte-first text p h = rw (add-one p) (drop-cons text p 0 h)
 
 -- nothing is left

@@ -13,8 +13,7 @@ use Rattle.token.specs.Next.{tokensOf, lexFrom, left, Closed, nextAt, by
 use Rattle.token.specs.declared.Kind.{Kind}
 use Rattle.token.specs.declared.Kind.the-variants as kinds
 use Rattle.token.specs.declared.Lexeme.{Lexeme}
-use Rattle.token.proofs.LexPlaces.{unclosed-within}
-use Rattle.token.proofs.Lexing.{lex-complete, lex-sound, read-unclosed, lexed}
+use Rattle.token.proofs.Lexing.{lex-complete, lex-sound, read-unclosed, lexed, unclosed-within}
 use Rattle.token.proofs.NextSteps.{Takes, Step, at-last, opens, takes, lex-past, next-step}
 
 -- ---- places from which on every quote is closed
@@ -29,7 +28,7 @@ unfolding tokensOf
 lexed-closed {text} {at} h e = record { here = h; lexed = lex-sound (e ∙ ap tokens (sym (ap tokensOf e))) }
 
 -- a text that is written with tokens, from its start on
-pub closed-start : {text : List ℕ} {ts : List Placed} → Lexes 0 text ts → Closed text 0
+closed-start : {text : List ℕ} {ts : List Placed} → Lexes 0 text ts → Closed text 0
 closed-start d = lexed-closed (omega arith) (lex-complete d)
 
 -- ---- the next lexeme

@@ -9,17 +9,17 @@ use mathlib.Core.List.{List, [], _∷_, _++_}
 use lib.ListN.{length, getD, take, drop, length-drop, take-append-drop, drop-of-length-le}
 use lib.Seq.{drop-cons, drop-drop, getD-drop, length-take-le}
 use Rattle.octets.specs.Choice.{pick}
-use Rattle.token.specs.Texts.{Every, none, more}
+use Rattle.octets.specs.Lists.{Every, every-none, every-more}
 use Rattle.token.specs.Next.{run, runEnd}
 
 module _ (test : ℕ → Bool) where
   -- a byte that passes
-  pub run-on : (b : ℕ) (bs : List ℕ) → test b ≡ true → run test (b ∷ bs) ≡ suc (run test bs)
+  run-on : (b : ℕ) (bs : List ℕ) → test b ≡ true → run test (b ∷ bs) ≡ suc (run test bs)
   unfolding run
   run-on b bs e = rw e
 
   -- a byte that doesn't
-  pub run-off : (b : ℕ) (bs : List ℕ) → test b ≡ false → run test (b ∷ bs) ≡ 0
+  run-off : (b : ℕ) (bs : List ℕ) → test b ≡ false → run test (b ∷ bs) ≡ 0
   unfolding run
   run-off b bs e = rw e
 
@@ -47,18 +47,18 @@ module _ (test : ℕ → Bool) where
   -- each of its bytes is as the test says
   pub run-every : {P : ℕ → Type 0} → ((b : ℕ) → test b ≡ true → P b) → (l : List ℕ) → Every P (take (run test l) l)
   unfolding run
-  run-every f [] = none
+  run-every f [] = every-none
   run-every {P} f (b ∷ bs) = go (test b) refl (run-every f bs)
     where
       go : (t : Bool) → test b ≡ t → Every P (take (run test bs) bs) → Every P (take (pick t (suc (run test bs)) 0) (b ∷ bs))
-      go true e a = more (f b e) a
-      go false e a = none
+      go true e a = every-more (f b e) a
+      go false e a = every-none
 
   -- bytes that all pass are a run
   pub run-whole : {P : ℕ → Type 0} → ((b : ℕ) → P b → test b ≡ true) → {l : List ℕ} → Every P l → run test l ≡ length l
   unfolding run
-  run-whole f none = refl
-  run-whole f (more {b = b} {bs = bs} p a) = run-on b bs (f b p) ∙ ap suc (run-whole f a)
+  run-whole f every-none = refl
+  run-whole f (every-more {a = b} {xs = bs} p a) = run-on b bs (f b p) ∙ ap suc (run-whole f a)
 
   -- ---- from a place on
 

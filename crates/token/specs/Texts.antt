@@ -1,7 +1,7 @@
 -- Texts: their size and bytes.
 use Prim.Native.Nat.{ℕ, _≤_, _<_}
 use mathlib.Core.Bool.{Bool, true, false}
-use mathlib.Core.List.{List, [], _∷_}
+use mathlib.Core.List.{List}
 use lib.Dec.{leb, eqb}
 use lib.ListN.{length, getD}
 use Rattle.octets.specs.Choice.{pick}
@@ -21,11 +21,6 @@ pub data Allowed : ℕ → Type 0 where
   printed : {b : ℕ} → 32 ≤ b → b ≤ 126 → Allowed b
   tab : Allowed 9
   lineFeed : Allowed 10
-
--- every member is so
-pub data Every (P : ℕ → Type 0) : List ℕ → Type 0 where
-  none : Every P []
-  more : {b : ℕ} {bs : List ℕ} → P b → Every P bs → Every P (b ∷ bs)
 
 -- a forbidden byte, and the first: its place
 pub record Forbidden (text : List ℕ) (place : ℕ) : Type 0 where

@@ -3,7 +3,8 @@ use Prim.Native.Nat.{ℕ, suc, _+_}
 use mathlib.Core.Path.{_≡_}
 use mathlib.Core.List.{List, [], _∷_, _++_}
 use lib.ListN.{length}
-use Rattle.token.specs.Texts.{Blank, Every}
+use Rattle.octets.specs.Lists.{Every}
+use Rattle.token.specs.Texts.{Blank}
 
 -- a word is its bytes
 abbrev pub Word : Type 0

@@ -4,10 +4,11 @@ use native.Mathlib.Omega.{arith}
 use mathlib.Core.Path.{ap}
 use mathlib.Core.List.{List}
 use Rattle.octets.specs.Numbers.{numberAt}
-use Rattle.octets.specs.Lists.{Every, every-none, every-more}
-use Rattle.octets.specs.Rows.{Joined, none, more}
+use Rattle.octets.specs.Lists.{Every, every-none}
+use Rattle.octets.specs.Rows.{Joined}
 use Rattle.octets.proofs.Numbers.{number-lt}
 use Rattle.octets.proofs.Every.{every-append}
+use Rattle.octets.proofs.Items.{joined-every}
 use Rattle.network.specs.declared.Network.{Network}
 use Rattle.network.specs.Wire.{PrefixBytes}
 use Rattle.network.proofs.Clearing.{cleared-le}
@@ -60,8 +61,7 @@ prefix-addressed {n} p =
 
 -- prefixes one after another
 prefixes-addressed : {ns : List Network} {bytes : List ℕ} → Joined (PrefixBytes addressBits) ns bytes → Every Addressed ns
-prefixes-addressed none = every-none
-prefixes-addressed (more p ps e) = every-more (prefix-addressed p) (prefixes-addressed ps)
+prefixes-addressed j = joined-every (λ n bytes p. prefix-addressed p) j
 
 -- the prefixes in a body
 body-addressed : {m : Message} {bytes : List ℕ} → BodyBytes m bytes → PrefixesAddressed m

@@ -1,3 +1,4 @@
+-- Laws of tests and verdicts. Assumes nothing.
 pub mod Addresses
 pub mod CodeReads
 pub mod ItemReads

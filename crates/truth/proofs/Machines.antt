@@ -23,7 +23,7 @@ test-truth m (networkIs r n s) = refl
 test-truth m (timeIs c s n) = refl
 
 -- so for every test
-pub truths-agree : (m : Message) → Agrees (isTrue m) (recordTruth m)
+truths-agree : (m : Message) → Agrees (isTrue m) (recordTruth m)
 truths-agree m = record { same = test-truth m }
 
 module _ (m : Message) (r : Reading) (possible : Every Possible (records r)) where

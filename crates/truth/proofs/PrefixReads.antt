@@ -19,7 +19,7 @@ use Rattle.truth.specs.Means.{prefixesOn, somePrefix}
 
 module _ (r : Relation) (operand : Network) where
   -- the prefixes of two sections, one after the other
-  pub some-append : (xs ys : List Network) → somePrefix r operand (xs ++ ys) ≡ pick (somePrefix r operand xs) true (somePrefix r operand ys)
+  some-append : (xs ys : List Network) → somePrefix r operand (xs ++ ys) ≡ pick (somePrefix r operand xs) true (somePrefix r operand ys)
   unfolding somePrefix
   some-append [] ys = refl
   some-append (n ∷ xs) ys = rw (some-append xs ys) (go (relates 32 r operand n))

@@ -28,7 +28,7 @@ abbrev pub itemsIn : ℕ → List ℕ → List Item
 itemsIn count records = itemsAfter count (recordsIn records)
 
 -- what stands at a cursor decides: a member with the cursor after it, or nothing more
-abbrev pub onNext : Next → (Member → Cursor → Bool) → Bool → Bool
+abbrev onNext : Next → (Member → Cursor → Bool) → Bool → Bool
 onNext (next.Member n after) member end = member n after
 onNext next.End member end = end
 

@@ -75,7 +75,7 @@ pub data Means (m : Message) : Test → Type 0 where
 
 -- ---- what the code computes
 
-abbrev pub isUpdate : Message → Bool
+abbrev isUpdate : Message → Bool
 isUpdate m = eqb (m .kind) update
 
 -- a peer against an address and an AS number

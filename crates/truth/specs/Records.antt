@@ -26,7 +26,7 @@ recordTruth m flip items = false
 recordTruth m (pass o count) items = false
 
 -- the items of the record at a place of a program
-abbrev pub itemsAt : List ℕ → ℕ → List Item
+abbrev itemsAt : List ℕ → ℕ → List Item
 itemsAt program at = itemsAfter (countOf (decode (drop at program))) (recordsIn (drop (at + recordSize) program))
 
 -- the truth of the record at a place of a program

@@ -1,3 +1,4 @@
+-- Laws of the walk. Assumes nothing.
 pub mod Steps
 pub mod Splits
 pub mod Walks

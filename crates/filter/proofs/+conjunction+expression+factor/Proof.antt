@@ -14,8 +14,10 @@ use Rattle.token.proofs.Nexts.{kind-token}
 use Rattle.token.proofs.next.Reads as next-reads
 use Rattle.filter.specs.Parsing.{roleSaid, from}
 use Rattle.filter.specs.Answers.{a-group, a-bang}
-use Rattle.filter.proofs.Tests.{no-level}
-use Rattle.filter.proofs.Parts.{not-joint, ready-small, next-ready, next-fewer, read-ready, says-stopped, Sofar, sofar-first, sofar-length, sofar-last, sofar-more, first-stops, side-ready, side-fewer, more-stops, opens-deep, opened-stops, negation, group, group-stops}
+use Rattle.filter.proofs.ReadyTokens.{no-level, not-joint, ready-small, next-ready, next-fewer}
+use Rattle.filter.proofs.Parts.{read-ready, says-stopped}
+use Rattle.filter.proofs.Sides.{Sofar, sofar-first, sofar-length, sofar-last, sofar-more, first-stops, side-ready, side-fewer, more-stops}
+use Rattle.filter.proofs.Factors.{opens-deep, opened-stops, negation, group, group-stops}
 use Rattle.filter.proofs.conjunction.Reads as conjunction
 use Rattle.filter.proofs.conjunction.Kinds as conjunction-kinds
 use Rattle.filter.proofs.+conjunction+expression+factor.Lts-conjunction as conjunction-lts

@@ -4,7 +4,8 @@ use borrow.Author.Needs.{needs}
 use Rattle.program.specs.Layout.{fieldsOf}
 use Rattle.program.specs.Compiling.{headOf, itemsOf}
 use Rattle.filter.specs.Parsing.{roleSaid}
-use Rattle.filter.proofs.Tests.{noTest, no-test, no-test-said, flag-taken, alone-says}
+use Rattle.filter.proofs.ReadyTokens.{noTest, no-test-said}
+use Rattle.filter.proofs.Tests.{no-test, flag-taken, alone-says}
 use Rattle.filter.proofs.test.Statement.{statement}
 use Rattle.filter.proofs.test.Tie as tie
 

@@ -5,9 +5,8 @@ use borrow.Author.Needs.{needs}
 use mathlib.Core.Path.{refl}
 use denote.Ref.{now}
 use lib.ListN.{length, List·getD-eq-default}
-use Rattle.octets.proofs.Numbers.{number-past}
+use Rattle.octets.proofs.Numbers.{number-past, number-one}
 use Rattle.octets.specs.Numbers.{Octets}
-use Rattle.octets.proofs.Numbers.{number-one}
 use Rattle.network.proofs.Prefixes.{network-here}
 use Rattle.network.proofs.network_at.Statement.{statement}
 use Rattle.network.proofs.network_at.Tie as tie

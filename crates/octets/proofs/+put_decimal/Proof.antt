@@ -1,5 +1,5 @@
 -- `octets::put_decimal` meets its contract: the digits of n / 100, then the last two. Assumes nothing.
-use Prim.Native.Nat.{_+_, _%_, _/_}
+use Prim.Native.Nat.{_+_, _%_, _/_, ℕ, _<_}
 use native.Mathlib.Omega.{arith}
 use mathlib.Core.List.{[], _∷_}
 use mathlib.Core.Path.{_∙_}
@@ -7,7 +7,6 @@ use borrow.Author.Needs.{needs}
 use Rattle.octets.specs.Decimal.{decimal}
 use Rattle.octets.proofs.Decimal.{digits-small, decimal-pair, decimal-two}
 use Rattle.octets.proofs.Writes.{both}
-use Prim.Native.Nat.{ℕ, _<_}
 use borrow.Fn.Kinds.{In}
 use borrow.Fn.PlainCycle.{Measures, is, falls, and}
 use Rattle.octets.proofs.put_decimal.Reads as put-decimal
