@@ -25,9 +25,9 @@ class Token:
 class Item:
     """A function's body or a constant's value; contract is the place of its promise, if it has one."""
 
-    def __init__(self, name, public, start, tokens, parameters=(), contract=None):
+    def __init__(self, name, public, start, tokens, parameters=(), contract=None, lent=()):
         self.name, self.public, self.start, self.tokens = name, public, start, tokens
-        self.parameters, self.contract = parameters, contract
+        self.parameters, self.contract, self.lent = parameters, contract, lent
 
 
 class Mutant:
@@ -56,7 +56,8 @@ def items_of(text):
     for m in re.finditer(r'^(pub )?(?:extern "C" )?fn (\w+)(?:<[^>]*>)?\((.*?)\)[^{;]*?(?:\{\n|\n(?:    (?:requires|ensures|ghost) [^\n]*\n)+\{\n)', text, re.M | re.S):
         end = text.index("\n}", m.end() - 1)
         parameters = re.findall(r"(\w+): ", m.group(3))
-        items.append(Item(m.group(2), bool(m.group(1)), m.start(), tokens_of(text, m.end(), end), parameters, (m.end(3), m.end())))
+        lent = re.findall(r"(\w+): &(?:'\w+ )?mut ", m.group(3))
+        items.append(Item(m.group(2), bool(m.group(1)), m.start(), tokens_of(text, m.end(), end), parameters, (m.end(3), m.end()), lent))
     for m in re.finditer(r"^(pub )?const (\w+): [^=]*=(.*?);$", text, re.M | re.S):
         items.append(Item(m.group(2), False, m.start(), tokens_of(text, m.start(3), m.end(3))))
     return sorted(items, key=lambda item: item.start)
@@ -156,12 +157,12 @@ def number_mutants(text):
 
 
 def promises_of(item, text):
-    """Changes to the promise: what is said of a lent value is said of the one before, or of another parameter."""
+    """Changes to the promise: what is said of a lent value before is said of it afterwards, or the reverse, or of another parameter."""
     found = []
     for m in re.finditer(r"now \((\w+) \.(entry|exit)\)", text[item.contract[0] : item.contract[1]]):
         start = item.contract[0]
-        if m.group(2) == "exit":
-            found.append(Mutant(item, "promise", [(start + m.start(2), start + m.end(2), "entry")]))
+        if m.group(1) in item.lent:
+            found.append(Mutant(item, "promise", [(start + m.start(2), start + m.end(2), "entry" if m.group(2) == "exit" else "exit")]))
         for other in item.parameters:
             if other != m.group(1):
                 found.append(Mutant(item, "promise", [(start + m.start(1), start + m.end(1), other)]))
@@ -216,6 +217,9 @@ def mutants_of(item, declared, text):
             if later and ts[later].text in declared.fields.get(t.text, ()) and given(ts, i) != given(ts, later):
                 add("field", (t.start, t.end, ts[later].text), (ts[later].start, ts[later].end, t.text))
         elif t.text in names and before not in ("let", "mut", ".", "::") and after not in ("(", "::", ":", "["):
+            if before in ("(", ",") and after in (",", ")"):
+                for number in ("0", "1", "2"):
+                    add("argument", (t.start, t.end, number))
             for other in names:
                 if other != t.text and not other.startswith("_"):
                     # a field given by its name alone keeps its name

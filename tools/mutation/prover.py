@@ -96,7 +96,7 @@ def sorted_out(status, log):
     if status == 0:
         return "accepted", ""
     found = errors_of(log)
-    if "logic=not-proved" not in log or any(file.startswith("specs/") for file, _, _ in found):
+    if "logic=not-proved" not in log or any(file.startswith(("specs/", "src/")) for file, _, _ in found):
         return "ill", ""
     unfit = any(UNFIT.search(message) for _, _, message in found)
     first = next((f"{file} {part}".strip() for file, part, message in found if UNFIT.search(message) or not unfit), "")

@@ -95,7 +95,7 @@ module _ (text buffer : List ℕ) where
   gives {r} e d = rw (reading-is e d .0) (sym (program-length r), refl)
 
   -- so the reported bytes are the reading's program
-  pub reported-is : {r : Reading} → ourCompiler text buffer .number ≡ 0 → Derived text r → reported (ourCompiler text buffer) ≡ programOf r
+  reported-is : {r : Reading} → ourCompiler text buffer .number ≡ 0 → Derived text r → reported (ourCompiler text buffer) ≡ programOf r
   reported-is {r} e d =
       let x = gives e d in
       rw (x .0, x .1) (take-at (programOf r) (drop (length (programOf r)) buffer) (length (programOf r)) refl)

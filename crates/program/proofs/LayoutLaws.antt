@@ -34,7 +34,7 @@ pub record Fit (f : Fields) : Type 0 where
   pub b : f .b < 2 ^ 32
 
 -- the bytes of fields are 16
-pub laid-length : (f : Fields) → length (laid f) ≡ recordSize
+laid-length : (f : Fields) → length (laid f) ≡ recordSize
 unfolding laid bytesOf
 laid-length f = refl
 

@@ -54,7 +54,7 @@ head-test (networkIs r n s) = refl
 head-test (timeIs c s m) = refl
 
 -- the items after the record of a test
-pub items-found : (is : List Item) (rest : List Record) → itemsAfter (length is) (map item is ++ rest) ≡ is
+items-found : (is : List Item) (rest : List Record) → itemsAfter (length is) (map item is ++ rest) ≡ is
 unfolding itemsAfter
 items-found [] rest = refl
 items-found (i ∷ is) rest = ap (λ (more : List Item). i ∷ more) (items-found is rest)

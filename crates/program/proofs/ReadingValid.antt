@@ -44,7 +44,7 @@ PossibleReading (neg r) = PossibleReading r
 PossibleReading (joint o a b) = PossibleReading a × PossibleReading b
 
 -- a reading weighs something
-pub weight-some : (r : Reading) → 1 ≤ weight r
+weight-some : (r : Reading) → 1 ≤ weight r
 unfolding weight
 weight-some (test t) = omega arith
 weight-some (neg r) = omega arith
@@ -86,7 +86,7 @@ records-possible (joint o a b) p h =
 -- ---- the first record
 
 -- the first record of a reading is a test
-pub records-start : (r : Reading) → classOf (getD (records r) 0 flip) ≡ aTest
+records-start : (r : Reading) → classOf (getD (records r) 0 flip) ≡ aTest
 unfolding records
 records-start (test t) = head-test t
 records-start (neg r) = rw (List·getD-append (records r) (flip ∷ []) flip 0 (omega (arith, length-records r, weight-some r))) (records-start r)
@@ -115,7 +115,7 @@ grouped-before (joint o a b) {rest} g =
     (grouped-before a (more [] (pass-no-item o (length (records b))) refl (grouped-before b g) refl))
 
 -- each item of a reading's records stands with its path
-pub records-grouped : (r : Reading) → Grouped (records r)
+records-grouped : (r : Reading) → Grouped (records r)
 records-grouped r = rw (append-nil (records r)) at (grouped-before r end)
 
 -- ---- landings
@@ -167,7 +167,7 @@ unfolding classOf
 head-no-pass t o count e = let z : _≡_ {A = ℕ} 0 1 = cc (head-test t, ap classOf e) in omega arith
 
 -- the passes of a reading's records land well
-pub records-land : (r : Reading) → Lands (records r)
+records-land : (r : Reading) → Lands (records r)
 unfolding records
 records-land (test t) = lands-cons (λ o count e. absurd (head-no-pass t o count e)) (lands-items (itemsOf t))
 records-land (neg r) =

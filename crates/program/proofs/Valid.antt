@@ -91,7 +91,7 @@ module _ {program : List ℕ} (v : Valid program) where
   every-possible = every-places (v .records) flip (v .possible)
 
   -- the bytes of a valid program are 16 for each record
-  pub valid-length : length program ≡ recordSize * length (v .records)
+  valid-length : length program ≡ recordSize * length (v .records)
   valid-length = ap length (v .laid) ∙ encodeAll-length (v .records)
 
   -- it passes the tests

@@ -33,7 +33,7 @@ pub record-long : (r : Record) (rest : List ℕ) → recordSize ≤ length (enco
 record-long r rest = rw length-append (omega (arith, encode-length r))
 
 -- the bytes from a record on
-pub encodeAll-drop : (n : ℕ) (rs : List Record) → drop (recordSize * n) (encodeAll rs) ≡ encodeAll (drop n rs)
+encodeAll-drop : (n : ℕ) (rs : List Record) → drop (recordSize * n) (encodeAll rs) ≡ encodeAll (drop n rs)
 unfolding encodeAll
 encodeAll-drop zero rs = refl
 encodeAll-drop (suc n) [] = drop-nil (recordSize * suc n)

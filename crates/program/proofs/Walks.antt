@@ -24,7 +24,7 @@ pub record Walk {S : Type 0} (walk : ℕ → S → List ℕ → Bool) (done : S 
 
 module _ {S : Type 0} {walk : ℕ → S → List ℕ → Bool} {done : S → Bool} {goes : S → List ℕ → (S → Bool) → Bool} (w : Walk walk done goes) where
   -- where no whole record stands, a walk is at its end
-  pub walk-end : (f : ℕ) (s : S) (l : List ℕ) → length l < recordSize → walk f s l ≡ done s
+  walk-end : (f : ℕ) (s : S) (l : List ℕ) → length l < recordSize → walk f s l ≡ done s
   walk-end zero s l h = w .bare s l
   walk-end (suc f) s l h = w .step f s l ∙ simp (lt-ltb _ _ h)
 
@@ -32,7 +32,7 @@ module _ {S : Type 0} {walk : ℕ → S → List ℕ → Bool} {done : S → Boo
   stands f s l h = w .step f s l ∙ simp (le-ltb _ _ h)
 
   -- the bound doesn't matter where it is at least the number of bytes
-  pub walk-fuel : (f g : ℕ) (s : S) (l : List ℕ) → length l ≤ f → length l ≤ g → walk f s l ≡ walk g s l
+  walk-fuel : (f g : ℕ) (s : S) (l : List ℕ) → length l ≤ f → length l ≤ g → walk f s l ≡ walk g s l
   walk-fuel zero g s l h k = walk-end zero s l (omega arith) ∙ sym (walk-end g s l (omega arith))
   walk-fuel (suc f) zero s l h k = walk-end (suc f) s l (omega arith) ∙ sym (walk-end zero s l (omega arith))
   walk-fuel (suc f) (suc g) s l h k = by (λ t. walk-fuel f g t (drop recordSize l)) (decLe recordSize (length l))

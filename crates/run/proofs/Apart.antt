@@ -15,7 +15,7 @@ use Rattle.judge.specs.Answers.{Outcome, kept, dropped, refused, declined}
 use Rattle.judge.specs.Functions.{Judging, ourJudge}
 use Rattle.judge.specs.Functions as judge
 use Rattle.judge.proofs.Alike.{judged-alike}
-use Rattle.run.specs.Runs.{Stepped, judged, State, moved, stepOn, stateOf, answerOf, steppedBy, runnerOf}
+use Rattle.run.specs.Runs.{Stepped, judged, State, moved, stepOn, stateOf, steppedBy, runnerOf}
 use Rattle.run.specs.Damage.{NoneFull, OneMore, uncounted, counted, SameAnswer, Same, both-judged, both-done, both-cut}
 use Rattle.run.proofs.Behind.{onward, runs-behind}
 

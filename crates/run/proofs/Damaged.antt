@@ -1,7 +1,7 @@
 -- A damaged record whose length is right changes nothing in a run of ours but that it is seen and refused. Assumes nothing.
-use Prim.Native.Nat.{ℕ, suc, _+_, _≤_, _<_}
+use Prim.Native.Nat.{ℕ, suc, _+_, _<_}
 use native.Mathlib.Omega.{arith}
-use mathlib.Core.Path.{_≡_, refl, sym, ap, _∙_}
+use mathlib.Core.Path.{_≡_, refl, sym, _∙_}
 use mathlib.Core.List.{List, _++_}
 use mathlib.Core.Option.{Option, some, none}
 use lib.ListN.{length}
@@ -20,7 +20,7 @@ use Rattle.judge.specs.Functions as judge
 use Rattle.judge.proofs.Answered.{refused-judged}
 use Rattle.run.specs.Runs.{judged, State, start, stateOf, answerOf, runnerOf}
 use Rattle.run.specs.Damage.{OneMore, uncounted, counted, Refuses, Unshaken, ChangesNothing}
-use Rattle.run.proofs.Records.{judges, stateIn, state-in, answer-in}
+use Rattle.run.proofs.Records.{judges, state-in, answer-in}
 use Rattle.run.proofs.Apart.{Apart, later-alike}
 
 -- a refusal is one more seen and refused

@@ -12,7 +12,7 @@ use Rattle.walk.proofs.Walks.{step-record, step-closing}
 
 module _ (bytes : RefT (List ℕ)) where
   -- before the k-th call the reader holds the same bytes, and the place of the k-th step
-  pub reader-is : (k : ℕ) → readerOf bytes k ≡ record { bytes = bytes; at = placeOf (now bytes) k }
+  reader-is : (k : ℕ) → readerOf bytes k ≡ record { bytes = bytes; at = placeOf (now bytes) k }
   unfolding readerOf placeOf
   reader-is zero = refl
   reader-is (suc k) = ap moved (reader-is k)

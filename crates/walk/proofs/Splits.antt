@@ -15,18 +15,18 @@ use Rattle.walk.specs.Split.{IsRecord, Rest, nothing, short, overrun, Sp
 -- ---- a record at the front
 
 -- the first bytes of a record say its length, whatever follows
-pub record-length : {r bytes : List ℕ} → IsRecord r bytes → (after : List ℕ) → length bytes ≡ headerSize + lengthField (bytes ++ after)
+record-length : {r bytes : List ℕ} → IsRecord r bytes → (after : List ℕ) → length bytes ≡ headerSize + lengthField (bytes ++ after)
 record-length {r} {bytes} w after =
     rw (number-front bytes after 8 4 (rw (w .same) (omega (arith, w .headed))), w .same) (w .sized)
 
 -- no rest has a record at its front
-pub rest-no-record : {r bytes rest : List ℕ} → IsRecord r bytes → (after : List ℕ) → Rest rest → rest ≡ bytes ++ after → ⊥
+rest-no-record : {r bytes rest : List ℕ} → IsRecord r bytes → (after : List ℕ) → Rest rest → rest ≡ bytes ++ after → ⊥
 rest-no-record {bytes = bytes} w after nothing e = omega (arith, record-length w after, length-append bytes after, ap length e)
 rest-no-record {bytes = bytes} w after (short h k) e = omega (arith, record-length w after, length-append bytes after, ap length e)
 rest-no-record {bytes = bytes} w after (overrun h k) e = omega (arith, record-length w after, length-append bytes after, ap length e, ap lengthField e)
 
 -- two records at the front of the same bytes are one, and so is what follows
-pub record-one : {r q x y : List ℕ} → IsRecord r x → IsRecord q y → (after behind : List ℕ) → x ++ after ≡ y ++ behind → (r ≡ q) × (after ≡ behind)
+record-one : {r q x y : List ℕ} → IsRecord r x → IsRecord q y → (after behind : List ℕ) → x ++ after ≡ y ++ behind → (r ≡ q) × (after ≡ behind)
 record-one {r} {q} {x} {y} v w after behind e =
     let n : length x ≡ length y = record-length v after ∙ ap (λ (l : List ℕ). headerSize + lengthField l) e ∙ sym (record-length w behind) in
     let f : take (length y) (x ++ after) ≡ y = rw e (take-at y behind (length y) refl) in
@@ -51,7 +51,7 @@ splits-rest c = record { front = []; split = refl; joined = none; closing = c }
 -- ---- any bytes split
 
 -- bytes that reach as far as their length field says start with a record
-pub record-front : (l : List ℕ) → headerSize + lengthField l ≤ length l
+record-front : (l : List ℕ) → headerSize + lengthField l ≤ length l
     → IsRecord (take (headerSize + lengthField l) l) (take (headerSize + lengthField l) l)
 record-front l h =
     let e : length (take (headerSize + lengthField l) l) ≡ headerSize + lengthField l = length-take-le (headerSize + lengthField l) l h in
@@ -59,7 +59,7 @@ record-front l h =
     record { same = refl; headed = omega arith; sized = omega arith }
 
 -- fewer bytes than a header has are a rest
-pub few-rest : (l : List ℕ) → length l < headerSize → Rest l
+few-rest : (l : List ℕ) → length l < headerSize → Rest l
 few-rest [] h = nothing
 few-rest (b ∷ l) h = short {rest = b ∷ l} (omega arith) h
 

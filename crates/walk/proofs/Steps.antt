@@ -60,7 +60,7 @@ place-below s at n h k = go (decLe (length s) at) (decLe headerSize (length s - 
 -- ---- where a record or a rest stands
 
 -- bytes that are left close a walk with cut
-pub closing-cut : (rest : List ℕ) → 0 < length rest → closingOf rest ≡ Cut (length rest)
+closing-cut : (rest : List ℕ) → 0 < length rest → closingOf rest ≡ Cut (length rest)
 closing-cut [] h = absurd (omega arith)
 closing-cut (b ∷ rest) h = refl
 

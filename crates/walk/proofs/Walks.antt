@@ -79,7 +79,7 @@ joined-stands (more {bytes = bytes} w j e) rest (suc k) h =
 
 module _ {bytes rest : List ℕ} {rs : List (List ℕ)} (s : Splits bytes rs rest) where
   -- the k-th record of a split stands at its place
-  pub splits-stands : (k : ℕ) → k < length rs → Stands bytes (getD rs k []) (placeIn rs k)
+  splits-stands : (k : ℕ) → k < length rs → Stands bytes (getD rs k []) (placeIn rs k)
   splits-stands k h = rw (s .split) (joined-stands (s .joined) rest k h)
 
   -- past the last record the walk closes
@@ -98,7 +98,7 @@ module _ {bytes rest : List ℕ} {rs : List (List ℕ)} (s : Splits bytes rs res
       go (no h) = rw (stands-step (splits-stands k (lt-of-not-le h))) (sym (place-next rs k))
 
   -- the place of the k-th step is that of the k-th record; past the last record it is their end
-  pub place-is : (k : ℕ) → placeOf bytes k ≡ placeIn rs k
+  place-is : (k : ℕ) → placeOf bytes k ≡ placeIn rs k
   unfolding placeOf placeIn
   place-is zero = refl
   place-is (suc k) = rw (place-is k) (goes-on k)

@@ -1,6 +1,6 @@
 -- `run::run_step` meets its contract: each arm is a case of `steppedBy`. Assumes nothing.
 use Prim.Native.Nat.{_^_}
-use mathlib.Core.Path.{refl, sym, _∙_}
+use mathlib.Core.Path.{sym, _∙_}
 use borrow.Author.Needs.{needs}
 use denote.Ref.{now}
 use Rattle.walk.proofs.Steps.{place-below}
