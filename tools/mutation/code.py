@@ -217,7 +217,7 @@ def mutants_of(item, declared, text):
             if later and ts[later].text in declared.fields.get(t.text, ()) and given(ts, i) != given(ts, later):
                 add("field", (t.start, t.end, ts[later].text), (ts[later].start, ts[later].end, t.text))
         elif t.text in names and before not in ("let", "mut", ".", "::") and after not in ("(", "::", ":", "["):
-            if before in ("(", ",") and after in (",", ")"):
+            if before in ("(", ",") and after in (",", ")", "as"):
                 for number in ("0", "1", "2"):
                     add("argument", (t.start, t.end, number))
             for other in names:

@@ -121,7 +121,9 @@ def mutants_of(item, known, text):
         whole = conditions(m.group())
         # the last part of a constructor is its result
         for a, b in whole[:-1] if " data " in f" {body.splitlines()[0]}" else whole:
-            add("condition", (item.start + m.start() + a, item.start + m.start() + b, "Unit {0}"))
+            # a type of values, as `List Token`, is no condition
+            if re.search(r"[≡≤<→]|(?<!\w)[a-z]", m.group()[a:b]):
+                add("condition", (item.start + m.start() + a, item.start + m.start() + b, "Unit {0}"))
     # two neighbouring rows of a table
     rows = [(m.start(1), m.end(1)) for m in re.finditer(r"^    (?:∷ )?(?!\[\])(\S.*?)(?:  --.*)?$", body, re.M)] if "\n    ∷ " in body else []
     for (a, b), (c, d) in zip(rows, rows[1:]):

@@ -1,5 +1,5 @@
 -- A damaged record whose length is right changes nothing in a run of ours but that it is seen and refused. Assumes nothing.
-use Prim.Native.Nat.{ℕ, suc, _+_, _<_}
+use Prim.Native.Nat.{ℕ, zero, suc, _+_, _≤_, _<_}
 use native.Mathlib.Omega.{arith}
 use mathlib.Core.Path.{_≡_, refl, sym, _∙_}
 use mathlib.Core.List.{List, _++_}
@@ -18,8 +18,8 @@ use Rattle.judge.specs.Answers.{refused}
 use Rattle.judge.specs.Functions.{Judging, ourJudge}
 use Rattle.judge.specs.Functions as judge
 use Rattle.judge.proofs.Answered.{refused-judged}
-use Rattle.run.specs.Runs.{judged, State, start, stateOf, answerOf, runnerOf}
-use Rattle.run.specs.Damage.{OneMore, uncounted, counted, Refuses, Unshaken, ChangesNothing}
+use Rattle.run.specs.Runs.{judged, Runner, State, start, stateOf, answerOf, runnerOf}
+use Rattle.run.specs.Damage.{NoneFull, OneMore, uncounted, counted, Refuses, Unshaken, ChangesNothing}
 use Rattle.run.proofs.Records.{judges, state-in, answer-in}
 use Rattle.run.proofs.Apart.{Apart, later-alike}
 
@@ -34,6 +34,17 @@ refuses : {program damaged : List ℕ} {why : Refusal} → Valid program → Oct
 refuses v o x s n =
     rw (refused-judged v n o x (length (s .lines)))
     (record { numbered = refl; no-steps = refl; unwritten = refl; lines-left = refl; counts = one-refused _ (s .counting) })
+
+-- what is asked of a run's first step, a tally that isn't full meets
+pub none-full-first : (runner : Runner) (program bytes lines : List ℕ) (counting : Option Tally) → (FullTally counting → ⊥)
+    → NoneFull runner program bytes (start lines counting) 0
+unfolding stateOf
+none-full-first runner program bytes lines counting n = record { none-full = first }
+  where
+    first : (k : ℕ) → k ≤ 0 → {j : Judging} {next : ℕ} → answerOf runner program bytes (start lines counting) k ≡ judged j next
+        → FullTally (stateOf runner program bytes (start lines counting) k .counting) → ⊥
+    first zero h e f = n f
+    first (suc k) h e f = omega arith
 
 module _ (program before damaged after : List ℕ) {records : List (List ℕ)} (j : Joined IsRecord records before) (lines : List ℕ) (counting : Option Tally) where
   -- where each run has come to after the records before
