@@ -124,6 +124,7 @@ def arguments(tokens, i):
 
 
 def closing(tokens, i):
+    """The ']' of the '[' at i."""
     depth = 0
     for j in range(i, len(tokens)):
         depth += (tokens[j].text == "[") - (tokens[j].text == "]")
@@ -189,7 +190,7 @@ def mutants_of(item, declared, text):
         elif t.kind == "number" and before != ".":
             for new in number_mutants(t.text):
                 add("constant", (t.start, t.end, new))
-        elif t.kind == "byte" or t.kind == "bytes":
+        elif t.kind in ("byte", "bytes"):
             for place in range(t.start + 2, t.end - 1):
                 if text[place] != "\\":
                     add("literal", (place, place + 1, chr(ord(text[place]) ^ 1)))
@@ -198,9 +199,9 @@ def mutants_of(item, declared, text):
         elif t.text == "!" and not value_before:
             add("negation", (t.start, t.end, ""))
         elif t.text == "[" and value_before:
-            end = ts[closing(ts, i)]
-            behind = ts[closing(ts, i) + 1].text if closing(ts, i) + 1 < len(ts) else ""
-            add("store" if behind == "=" else "place", (end.start, end.start, " + 1"))
+            j = closing(ts, i)
+            behind = ts[j + 1].text if j + 1 < len(ts) else ""
+            add("store" if behind == "=" else "place", (ts[j].start, ts[j].start, " + 1"))
         elif t.text == "(" and i and ts[i - 1].kind == "name":
             parts = arguments(ts, i)
             for (a, b), (c, d) in zip(parts, parts[1:]):

@@ -35,6 +35,7 @@ def constructors(text):
 
 
 def fields(text):
+    """The fields of a file's records, by name, with those of the same record and type."""
     found = {}
     for body in re.findall(r"^(?:pub )?record [^\n]*where\n((?:  .*\n)+)", text, re.M):
         by_type = re.findall(r"^  pub (\w+) : (.*)$", body, re.M)
@@ -48,7 +49,7 @@ def bound_names(line):
     left, equals, _ = line.partition(" = ")
     if not equals:
         return []
-    return [w for w in re.findall(r"(?<![\w.])([a-z]\w*′?)(?![\w′])", left)[1:]]
+    return re.findall(r"(?<![\w.])([a-z]\w*′?)(?![\w′])", left)[1:]
 
 
 def atom_end(tokens, i):
@@ -64,23 +65,24 @@ def atom_end(tokens, i):
 
 def conditions(rule):
     """The places of a rule's or a field's conditions: what stands between its arrows and binds no name."""
-    begin = rule.index(" : ") + 3
-    depth, found = 0, []
-    for m in re.finditer(r"[({\[]|[)}\]]|\s→\s|$", rule[begin:]):
-        sign = m.group().strip()
+    start = rule.index(" : ") + 3
+    depth, places = 0, []
+    for m in re.finditer(r"[({\[]|[)}\]]|\s→\s|$", rule[start:]):
+        sign, place = m.group().strip(), start + m.start()
         if depth == 0 and sign in ("→", ""):
-            found.append((sign, m.start(), m.end()))
+            behind = places[-1][2] if places else start
+            places.append((behind, place, start + m.end()))
         depth += (sign in ("(", "{", "[")) - (sign in (")", "}", "]"))
-    places, last = [], 0
-    for _, start, end in found:
-        part = rule[begin + last : begin + start]
+    found = []
+    for a, b, _ in places:
+        part = rule[a:b]
         if part.strip() and not re.match(r"\s*[({][^()]* : ", part):
-            places.append((begin + last + len(part) - len(part.lstrip()), begin + last + len(part.rstrip())))
-        last = end
-    return places
+            found.append((b - len(part.lstrip()), a + len(part.rstrip())))
+    return found
 
 
 def mutants_of(item, known, text):
+    """Every mutant of a declaration; known are the constructors and the fields of all crates."""
     found = []
     names, parts = known
 

@@ -3,7 +3,6 @@ import csv
 from collections import Counter
 
 from . import prover
-from .code import Mutant
 
 RESULTS = ("fact", "unfit", "accepted", "time")
 COLUMNS = ("crate", "file", "item", "kind", "place", "old", "new", "result", "at", "line")
@@ -40,18 +39,19 @@ class Row:
                 for mutant in source.mutants(item):
                     other = Row.of(source, mutant)
                     if (other.kind, other.place, other.old, other.new, other.line) == (self.kind, self.place, self.old, self.new, self.line):
-                        mutant.row = self
                         return mutant
         return None
 
-    def judge(self, bench, source, label, mutant=None):
-        mutant = mutant or self.mutant(source)
-        status, log = bench.run(label, self.file, mutant.apply(source.text))
+    def judge(self, bench, source, mutant, label):
+        """Has the prover say what it makes of the row's mutant, in the copy of that label."""
+        text = mutant.apply(source.text)
+        status, log = bench.run(label, self.file, text)
         self.result, self.at = prover.sorted_out(status, log)
+        # a walk by hand fits no other body
         if self.result == "fact" and self.kind != "promise" and self.file.startswith("src/") and source.by_hand(mutant.item):
             self.result = "unfit"
         if self.result == "accepted" and self.file.startswith("specs/"):
-            self.result, self.at = bench.dependents(self.file, mutant.apply(source.text))
+            self.result, self.at = bench.dependents(self.file, text)
         bench.keep(self, log)
 
 

@@ -1,4 +1,5 @@
 """Runs the prover over a changed copy of a crate, and sorts what it says."""
+import itertools
 import os
 import platform
 import re
@@ -98,6 +99,8 @@ def sorted_out(status, log):
     found = errors_of(log)
     if "logic=not-proved" not in log or any(file.startswith(("specs/", "src/")) for file, _, _ in found):
         return "ill", ""
+    # a function with no proof file: the prover's own search doesn't show a part of it
+    found += [("search", part, "") for part in re.findall(r"^note: \S+: it is not proved that .*\(`([^`]*)`\)$", log, re.M)]
     unfit = any(UNFIT.search(message) for _, _, message in found)
     first = next((f"{file} {part}".strip() for file, part, message in found if UNFIT.search(message) or not unfit), "")
     return "unfit" if unfit else "fact", first
@@ -108,6 +111,7 @@ class Whole:
 
     def __init__(self, root, crate, work, limits, logs=None):
         self.root, self.crate, self.work, self.limits, self.logs = root, crate, work / crate, limits, logs
+        self.numbers = itertools.count()
 
     def folder(self, label):
         """A copy of the crate, made once for each label."""
@@ -143,14 +147,15 @@ class Whole:
                 if run.returncode != 0:
                     log = (copy / "target" / "log" / f"{crate}.out").read_text(errors="replace")
                     result, at = sorted_out(1, log.replace(f"{copy}/crates/{crate}/", ""))
-                    return ("fact" if result == "ill" else result), f"{crate}: {at}"
+                    # definitions that no longer fit together say as little as a proof that doesn't fit
+                    return ("unfit" if result == "ill" else result), f"{crate}: {at}"
         return "accepted", ""
 
     def keep(self, row, log):
+        """Keeps what the prover said, where a folder for it was named."""
         if self.logs and row.result != "ill":
             self.logs.mkdir(parents=True, exist_ok=True)
-            number = len(list(self.logs.iterdir()))
-            (self.logs / f"{number:05}.{row.result}.log").write_text(f"{row}\n{log}")
+            (self.logs / f"{self.crate}.{next(self.numbers):04}.{row.result}.log").write_text(f"{row}\n{log}")
 
 
 class Bench(Whole):

@@ -4,9 +4,12 @@ from . import definitions as definitions_of
 
 
 class Source:
+    """A file of a crate with its items; known is what its module has to know of other files."""
+
     def __init__(self, root, crate, file, module, known):
-        self.folder, self.crate, self.file, self.module, self.known = root / "crates" / crate, crate, file, module, known
+        self.folder, self.crate, self.file, self.module = root / "crates" / crate, crate, file, module
         self.text = (self.folder / file).read_text()
+        self.known = known(self.text)
         self.items = module.items_of(self.text)
 
     def by_hand(self, item):
@@ -15,7 +18,7 @@ class Source:
         return proof.exists() and "use denote.Triple.Walked" in proof.read_text()
 
     def mutants(self, item):
-        found = self.module.mutants_of(item, self.known(self.text), self.text)
+        found = self.module.mutants_of(item, self.known, self.text)
         if self.module is code_of and self.by_hand(item):
             found += code_of.promises_of(item, self.text)
         return found

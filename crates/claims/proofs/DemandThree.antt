@@ -41,7 +41,7 @@ use Rattle.judge.specs.Tallies.{FullTally}
 use Rattle.judge.specs.Judging.{judgedBy, judgeOf}
 use Rattle.judge.specs.Functions.{Judge, ourJudge}
 use Rattle.judge.proofs.Readings.{reading-judged}
-use Rattle.claims.specs.Functions.{reported, judgedWith}
+use Rattle.claims.specs.Functions.{Compiling, reported, judgedWith}
 use Rattle.claims.specs.Ours.{ourCompiler}
 use Rattle.claims.specs.DemandThree.{Compiles, JudgedSo, DemandThree}
 
@@ -68,6 +68,10 @@ compiled-reading (words.compiles f d w l) e = (one-reading (d .derived) e, w)
 -- a program's bytes
 program-length : (r : Reading) → length (programOf r) ≡ recordSize * weight r
 program-length r = encodeAll-length (records r) ∙ ap (λ (n : ℕ). recordSize * n) (length-records r)
+
+-- the bytes that compiling reports, where its buffer begins with them
+pub reported-front : (c : Compiling) (program rest : List ℕ) → c .value ≡ length program → c .buffer ≡ program ++ rest → reported c ≡ program
+reported-front c program rest v b = rw (v, b) (take-at program rest (length program) refl)
 
 module _ (text buffer : List ℕ) where
   -- 0 exactly when the words ask for it
@@ -98,7 +102,7 @@ module _ (text buffer : List ℕ) where
   reported-is : {r : Reading} → ourCompiler text buffer .number ≡ 0 → Derived text r → reported (ourCompiler text buffer) ≡ programOf r
   reported-is {r} e d =
       let x = gives e d in
-      rw (x .0, x .1) (take-at (programOf r) (drop (length (programOf r)) buffer) (length (programOf r)) refl)
+      reported-front (ourCompiler text buffer) (programOf r) _ (x .0) (x .1)
 
   -- judging with them gives the verdict of the reading
   pub judges : {r : Reading} → ourCompiler text buffer .number ≡ 0 → Derived text r → {m : Message} {bytes : List ℕ} → Represents m bytes

@@ -5,7 +5,6 @@ use mathlib.Core.Path.{_≡_, refl}
 use mathlib.Core.List.{List, [], _++_}
 use mathlib.Core.Option.{some, none}
 use lib.ListN.{length, getD, drop, replicate, length-replicate}
-use lib.Seq.{take-at}
 use borrow.Author.Tests.{eq-eqb}
 use Rattle.octets.proofs.Choices.{never}
 use Rattle.message.specs.Message.{Message}
@@ -31,7 +30,7 @@ use Rattle.claims.specs.Functions.{Compiler, reported}
 use Rattle.claims.specs.Ours.{ourCompiler}
 use Rattle.claims.specs.DemandTwo.{OnMessage, DemandTwo}
 use Rattle.claims.specs.DemandThree.{Compiles, JudgedSo, DemandThree}
-use Rattle.claims.proofs.DemandThree.{demand-three, compiled-compiles}
+use Rattle.claims.proofs.DemandThree.{demand-three, compiled-compiles, reported-front}
 
 -- a buffer for two records
 abbrev pub buffer : List ℕ
@@ -92,7 +91,7 @@ module _ {Verdict : Message → Reading → Type 0} {text : List ℕ} {r : Readi
   pub reported-are : (compiler : Compiler) (judge : Judge) → DemandThree compiler judge → reported (compiler text buffer) ≡ programOf r
   reported-are compiler judge d =
       let x = records-are compiler judge d in
-      rw (x .0, x .1) (take-at (programOf r) (drop (length (programOf r)) buffer) (length (programOf r)) refl)
+      reported-front (compiler text buffer) (programOf r) _ (x .0) (x .1)
 
   module _ (compiler : Compiler) (judge : Judge) where
     -- what is claimed of judging R with it, where another judge shows that the compiler compiles as demand 3 has it
