@@ -186,25 +186,23 @@ pub fn loops(s: &[u8], width: Width) -> bool
     ensures { λ r. ⌜ r ≡ hasLoop (membersOf (widthBytes width) (now (s .entry))) ⌝ }
 {
     let w = width_bytes(width);
-    let mut found = false;
     let mut p = Cursor { at: 0, left: 0 };
     'search: loop {
         let here = next_member(s, p, w);
         let Next::Member(n, after) = here else {
-            break 'search;
+            return false;
         };
         let mut q = after;
         let mut other = false;
-        'rest: loop {
+        loop {
             let there = next_member(s, q, w);
             let Next::Member(m, later) = there else {
-                break 'rest;
+                break;
             };
             if m != n {
                 other = true;
             } else {
                 if other {
-                    found = true;
                     break 'search;
                 }
             }
@@ -212,7 +210,7 @@ pub fn loops(s: &[u8], width: Width) -> bool
         }
         p = after;
     }
-    found
+    true
 }
 
 pub fn bogon(n: u32) -> bool

@@ -16,106 +16,106 @@ use Rattle.aspath.proofs.Returns.{returns-end, returns-other, returns-f
 use Rattle.aspath.proofs.loops.Statement.{statement}
 use Rattle.aspath.proofs.loops.Tie as tie
 
-abbrev Inv-rest : tie.InvT-rest
-Inv-rest s w found₀ n after q₀ other₀ found q other = (found ≡ false) × (returnsIn other n (remaining w s q) ≡ returnsIn false n (remaining w s after))
+abbrev Inv-loop : tie.InvT-loop
+Inv-loop s w n after q₀ other₀ q other = returnsIn other n (remaining w s q) ≡ returnsIn false n (remaining w s after)
 
-abbrev μ-rest : tie.MeasureT-rest
-μ-rest s w found₀ n after q₀ other₀ found q other = length (remaining w s q)
+abbrev μ-loop : tie.MeasureT-loop
+μ-loop s w n after q₀ other₀ q other = length (remaining w s q)
 
 abbrev Inv-search : tie.InvT-search
-Inv-search s w found₀ p₀ found p = (found ≡ false) × (hasLoop (remaining w s p) ≡ hasLoop (membersOf w s))
+Inv-search s w p₀ p = hasLoop (remaining w s p) ≡ hasLoop (membersOf w s)
 
 abbrev μ-search : tie.MeasureT-search
-μ-search s w found₀ p₀ found p = length (remaining w s p)
+μ-search s w p₀ p = length (remaining w s p)
 
-abbrev from : tie.At-search Inv-rest μ-rest Inv-search μ-search → Cursor → List Member
+abbrev from : tie.At-search Inv-loop μ-loop Inv-search μ-search → Cursor → List Member
 from b = remaining (b .before .width-bytes .result) (now (b .before .before .before .args .s))
 
 -- the members from p on are n and those after it
-here : (k : tie.After-here Inv-rest μ-rest Inv-search μ-search) → let b = k .before .before .before in
+here : (k : tie.After-here Inv-loop μ-loop Inv-search μ-search) → let b = k .before .before .before in
     from b (b .search .p) ≡ k .here .given .0 .0 ∷ from b (k .here .given .0 .1 .0)
 here k = member-view _ _ _ (sym (k .before .before .next-member .ensures) ∙ k .here .given .1)
 
 -- the members from q on are m and those after it
-there : (j : tie.After-there Inv-rest μ-rest Inv-search μ-search) → let b = j .before .before .before .before .before .before .before .before in
-    from b (j .before .before .before .rest .q) ≡ j .there .given .0 .0 ∷ from b (j .there .given .0 .1 .0)
+there : (j : tie.After-there Inv-loop μ-loop Inv-search μ-search) → let b = j .before .before .before .before .before .before .before .before in
+    from b (j .before .before .before .loop .q) ≡ j .there .given .0 .0 ∷ from b (j .there .given .0 .1 .0)
 there j = member-view _ _ _ (sym (j .before .before .next-member2 .ensures) ∙ j .there .given .1)
 
-width-bytes-requires : tie.Need-width-bytes-requires Inv-rest μ-rest Inv-search μ-search
+width-bytes-requires : tie.Need-width-bytes-requires Inv-loop μ-loop Inv-search μ-search
 width-bytes-requires c κs = search needs
 
-search-holds : tie.Need-search-holds Inv-rest μ-rest Inv-search μ-search
-search-holds c = (refl, ap hasLoop (whole-path (c .width-bytes .result) (now (c .before .before .args .s))))
+search-holds : tie.Need-search-holds Inv-loop μ-loop Inv-search μ-search
+search-holds c = ap hasLoop (whole-path (c .width-bytes .result) (now (c .before .before .args .s)))
 
-next-member-requires : tie.Need-next-member-requires Inv-rest μ-rest Inv-search μ-search
+next-member-requires : tie.Need-next-member-requires Inv-loop μ-loop Inv-search μ-search
 next-member-requires c κs = search needs
 
-enum-known-here : tie.Need-enum-known-here Inv-rest μ-rest Inv-search μ-search
+enum-known-here : tie.Need-enum-known-here Inv-loop μ-loop Inv-search μ-search
 enum-known-here c = search needs
 
-enum-told : tie.Need-enum-told Inv-rest μ-rest Inv-search μ-search
+enum-told : tie.Need-enum-told Inv-loop μ-loop Inv-search μ-search
 enum-told c = search needs
 
-rest-holds : tie.Need-rest-holds Inv-rest μ-rest Inv-search μ-search
-rest-holds c = (c .before .before .before .before .search .inv .0, refl)
+returns : tie.Need-returns Inv-loop μ-loop Inv-search μ-search
+returns c = let b = c .before .before .before in
+    let e = end-view _ _ (b .search .p) (sym (c .before .before .next-member .ensures) ∙ c .enum-told .given .1) in
+    rw (← b .before .width-bytes .ensures .0) (sym (sym (b .search .inv) ∙ ap hasLoop e ∙ loop-none))
 
-next-member-requires-2 : tie.Need-next-member-requires-2 Inv-rest μ-rest Inv-search μ-search
+loop-holds : tie.Need-loop-holds Inv-loop μ-loop Inv-search μ-search
+loop-holds c = refl
+
+next-member-requires-2 : tie.Need-next-member-requires-2 Inv-loop μ-loop Inv-search μ-search
 next-member-requires-2 c κs = search needs
 
-enum-known-there : tie.Need-enum-known-there Inv-rest μ-rest Inv-search μ-search
+enum-known-there : tie.Need-enum-known-there Inv-loop μ-loop Inv-search μ-search
 enum-known-there c = search needs
 
-enum-told-2 : tie.Need-enum-told-2 Inv-rest μ-rest Inv-search μ-search
+enum-told-2 : tie.Need-enum-told-2 Inv-loop μ-loop Inv-search μ-search
 enum-told-2 c = search needs
 
-rest-less : tie.Need-rest-less Inv-rest μ-rest Inv-search μ-search
-rest-less c = omega (arith, ap length (there (c .before .before)))
+loop-less : tie.Need-loop-less Inv-loop μ-loop Inv-search μ-search
+loop-less c = omega (arith, ap length (there (c .before .before)))
 
-rest-again : tie.Need-rest-again Inv-rest μ-rest Inv-search μ-search
-rest-again c = let j = c .before .before in
-    let r = j .before .before .before .rest in
-    (r .inv .0, sym (returns-other _ _ _ (r .other) (c .if1 .taken)) ∙ ap (returnsIn (r .other) _) (sym (there j)) ∙ r .inv .1)
+loop-again : tie.Need-loop-again Inv-loop μ-loop Inv-search μ-search
+loop-again c = let j = c .before .before in
+    let r = j .before .before .before .loop in
+    sym (returns-other _ _ _ (r .other) (c .if1 .taken)) ∙ ap (returnsIn (r .other) _) (sym (there j)) ∙ r .inv
 
-rest-less-2 : tie.Need-rest-less-2 Inv-rest μ-rest Inv-search μ-search
-rest-less-2 c = omega (arith, ap length (there (c .before .before .before)))
+loop-less-2 : tie.Need-loop-less-2 Inv-loop μ-loop Inv-search μ-search
+loop-less-2 c = omega (arith, ap length (there (c .before .before .before)))
 
-rest-again-2 : tie.Need-rest-again-2 Inv-rest μ-rest Inv-search μ-search
-rest-again-2 c = let j = c .before .before .before in
-    let r = j .before .before .before .rest in
-    (r .inv .0, rw (c .if2 .left) (sym (returns-same _ _ _ (c .before .if1 .left)) ∙ ap (returnsIn false _) (sym (there j)) ∙ rw (c .if2 .left) at (r .inv .1)))
+loop-again-2 : tie.Need-loop-again-2 Inv-loop μ-loop Inv-search μ-search
+loop-again-2 c = let j = c .before .before .before in
+    let r = j .before .before .before .loop in
+    rw (c .if2 .left) (sym (returns-same _ _ _ (c .before .if1 .left)) ∙ ap (returnsIn false _) (sym (there j)) ∙ rw (c .if2 .left) at (r .inv))
 
-search-less : tie.Need-search-less Inv-rest μ-rest Inv-search μ-search
+search-less : tie.Need-search-less Inv-loop μ-loop Inv-search μ-search
 search-less c = omega (arith, ap length (here (c .before .before .before .before .before)))
 
-search-again : tie.Need-search-again Inv-rest μ-rest Inv-search μ-search
-search-again c = let r = c .before .before .before .rest in
+search-again : tie.Need-search-again Inv-loop μ-loop Inv-search μ-search
+search-again c = let r = c .before .before .before .loop in
     let k = c .before .before .before .before .before in
     let n = k .here .given .0 .0 in
     let b = k .before .before .before in
     let e = end-view _ _ (r .q) (sym (c .before .before .next-member2 .ensures) ∙ c .enum-told2 .given .1) in
-    let f = sym (r .inv .1) ∙ ap (returnsIn (r .other) n) e ∙ returns-end n (r .other) in
-    (r .inv .0, sym (loop-later n _ f) ∙ ap hasLoop (sym (here k)) ∙ b .search .inv .1)
+    let f = sym (r .inv) ∙ ap (returnsIn (r .other) n) e ∙ returns-end n (r .other) in
+    sym (loop-later n _ f) ∙ ap hasLoop (sym (here k)) ∙ b .search .inv
 
-returns : tie.Need-returns Inv-rest μ-rest Inv-search μ-search
-returns c = let b = c .before .before .before in
-    let e = end-view _ _ (b .search .p) (sym (c .before .before .next-member .ensures) ∙ c .enum-told .given .1) in
-    rw (← b .before .width-bytes .ensures .0) (b .search .inv .0 ∙ sym (sym (b .search .inv .1) ∙ ap hasLoop e ∙ loop-none))
-
-returns-2 : tie.Need-returns-2 Inv-rest μ-rest Inv-search μ-search
+returns-2 : tie.Need-returns-2 Inv-loop μ-loop Inv-search μ-search
 returns-2 c = let j = c .before .before .before in
-    let r = j .before .before .before .rest in
+    let r = j .before .before .before .loop in
     let k = j .before .before .before .before .before in
     let n = k .here .given .0 .0 in
     let b = k .before .before .before in
-    let f = sym (rw (c .if2 .taken) at (r .inv .1)) ∙ ap (returnsIn true n) (there j) ∙ returns-found n _ _ (c .before .if1 .left) in
-    rw (← b .before .width-bytes .ensures .0) (sym (sym (b .search .inv .1) ∙ ap hasLoop (here k) ∙ loop-here n _ f))
+    let f = sym (rw (c .if2 .taken) at (r .inv)) ∙ ap (returnsIn true n) (there j) ∙ returns-found n _ _ (c .before .if1 .left) in
+    rw (← b .before .width-bytes .ensures .0) (sym (sym (b .search .inv) ∙ ap hasLoop (here k) ∙ loop-here n _ f))
 
 pub loops-spec : {M : Type 1} → statement M
 loops-spec =
     tie.close
     (tie.spec
-    Inv-rest
-    μ-rest
+    Inv-loop
+    μ-loop
     Inv-search
     μ-search
     width-bytes-requires
@@ -123,15 +123,15 @@ loops-spec =
     next-member-requires
     enum-known-here
     enum-told
-    rest-holds
+    returns
+    loop-holds
     next-member-requires-2
     enum-known-there
     enum-told-2
-    rest-less
-    rest-again
-    rest-less-2
-    rest-again-2
+    loop-less
+    loop-again
+    loop-less-2
+    loop-again-2
     search-less
     search-again
-    returns
     returns-2)
