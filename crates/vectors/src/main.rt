@@ -1,10 +1,13 @@
-// Prints what the code says of the known records of document 01 and of one record for each refusal.
+// Prints what the code says of the known records of document 01, of one record for each refusal, and of runs of records.
+ghost use mathlib.Core.Path.{_≡_};
+ghost use Rattle.walk.specs.Steps.{stepOf};
 use libc::STDOUT_FILENO;
 use line::Wrote;
 use message::Decoded;
+use walk::Step;
 
-// Record R.
-const R: [u8; 83] = [
+// A run of three records: R, of 83 bytes; R32, of 84, which is R with a prefix of 32 bits; and R33, of 85, with one of 33.
+const RUN: [u8; 252] = [
     0x60,
     0xB8,
     0xD2,
@@ -88,10 +91,7 @@ const R: [u8; 83] = [
     0x0A,
     0x01,
     0x02,
-];
-
-// R with a prefix of 32 bits, and of 33.
-const R32: [u8; 84] = [
+    // R32
     0x60,
     0xB8,
     0xD2,
@@ -176,9 +176,7 @@ const R32: [u8; 84] = [
     0x01,
     0x02,
     0x03,
-];
-
-const R33: [u8; 85] = [
+    // R33
     0x60,
     0xB8,
     0xD2,
@@ -299,11 +297,11 @@ fn tell(record: &[u8], room: &mut [u8]) {
 
 // R with two bytes changed.
 fn tell_changed(at: usize, b: u8, also: usize, c: u8) {
-    let mut r = R;
-    octets::put(&mut r, at, b);
-    octets::put(&mut r, also, c);
+    let mut run = RUN;
+    octets::put(&mut run, at, b);
+    octets::put(&mut run, also, c);
     let mut room = [0u8; 256];
-    tell(&r, &mut room);
+    tell(octets::part(&run, 0, 83), &mut room);
 }
 
 fn tell_one(at: usize, b: u8) {
@@ -345,16 +343,69 @@ fn refusals() {
     tell_one(79, 25);
 }
 
+// What a reader answers at its third step over a run.
+fn third_step(bytes: &[u8]) -> Step
+    ensures { λ r. ⌜ r ≡ stepOf (now (bytes .entry)) 2 ⌝ }
+{
+    let mut reader = walk::read_run(bytes);
+    walk::next(&mut reader);
+    walk::next(&mut reader);
+    walk::next(&mut reader)
+}
+
+// A place or a length; none here needs more than 32 bits.
+fn say_size(n: usize) {
+    if n < 4294967296 {
+        say_number(n as u32);
+    }
+}
+
+// The third step over the run's bytes up to a place.
+fn tell_third(end: usize) {
+    let run = RUN;
+    let step = third_step(octets::part(&run, 0, end));
+    match step {
+        Step::Record { start, len } => {
+            say(b"a record at ");
+            say_size(start);
+            say(b" of ");
+            say_size(len);
+            say(b" bytes\n");
+        }
+        Step::Done => say(b"done\n"),
+        Step::Cut { left } => {
+            say(b"cut, ");
+            say_size(left);
+            say(b" bytes left\n");
+        }
+    }
+}
+
+fn third_steps() {
+    say(b"third step over R, R32, R33: ");
+    tell_third(252);
+    say(b"third step over R, R32: ");
+    tell_third(167);
+    say(b"third step over R, R32, 84 bytes: ");
+    tell_third(251);
+    say(b"third step over R, R32, 11 bytes: ");
+    tell_third(178);
+    say(b"third step over R: ");
+    tell_third(83);
+    say(b"third step over R, 11 bytes: ");
+    tell_third(94);
+}
+
 fn main() {
     say(b"R: ");
     tell_one(0, 0x60);
-    let r = R;
+    let run = RUN;
     say(b"R in 71 bytes: ");
     let mut room = [0u8; 71];
-    tell(&r, &mut room);
+    tell(octets::part(&run, 0, 83), &mut room);
     say(b"R in 70 bytes: ");
     let mut short = [0u8; 70];
-    tell(&r, &mut short);
+    tell(octets::part(&run, 0, 83), &mut short);
     say(b"17 0A 01 03: ");
     tell_network(b"\x17\x0A\x01\x03");
     say(b"20 0A 01 02 03: ");
@@ -365,10 +416,9 @@ fn main() {
     tell_changed(79, 0x17, 82, 0x03);
     let mut lines = [0u8; 256];
     say(b"R with 20 0A 01 02 03: ");
-    let r = R32;
-    tell(&r, &mut lines);
+    tell(octets::part(&run, 83, 84), &mut lines);
     say(b"R with 21 0A 01 02 03 04: ");
-    let r = R33;
-    tell(&r, &mut lines);
+    tell(octets::part(&run, 167, 85), &mut lines);
     refusals();
+    third_steps();
 }
