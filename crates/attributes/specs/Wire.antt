@@ -28,6 +28,10 @@ pub record RawBytes (r : Raw) (bytes : List ℕ) : Type 0 where
   pub sized : Field (lengthWidth flags) (length (r .body)) size
   pub joined : bytes ≡ flags ∷ r .code ∷ (size ++ r .body)
 
+-- the codes of attributes
+abbrev pub codes : List Raw → List ℕ
+codes raws = map (λ (r : Raw). r .code) raws
+
 -- ---- what the code computes, of the attribute at the front
 
 -- the bytes before its body, and those of its body as its length says
@@ -47,7 +51,3 @@ rawOf l = record { code = getD l 1 0; body = partAt l (attributeHeader l) (bodyS
 -- the attributes of a section
 abbrev pub rawsOf : List ℕ → List Raw
 rawsOf l = items attributeSize rawOf l
-
--- and their codes
-abbrev pub codes : List Raw → List ℕ
-codes raws = map (λ (r : Raw). r .code) raws

@@ -1,25 +1,29 @@
 -- Demand 1 holds of our compiler and our judge. Assumes nothing.
 use Prim.Native.Nat.{ℕ, _≤_}
 use native.Mathlib.Omega.{arith}
-use mathlib.Core.Path.{_≡_, refl}
+use mathlib.Core.Path.{_≡_, refl, ap}
 use mathlib.Core.List.{List}
 use mathlib.Core.Option.{Option, some, none}
 use lib.ListN.{length}
+use Rattle.truth.proofs.Machines.{record-means}
 use Rattle.filter.specs.Answers as texts
 use Rattle.filter.specs.Answering as compiling
+use Rattle.filter.specs.Functions as functions
+use Rattle.filter.specs.Functions.{ourCompiler}
 use Rattle.filter.proofs.Answered.{answer-given, only-answer}
-use Rattle.filter.proofs.RefusedTexts.{refused-numbered}
+use Rattle.filter.proofs.Numbers as filter
+use Rattle.filter.proofs.GivenPossible.{given-possible}
 use Rattle.judge.specs.declared.Tally.{Tally}
+use Rattle.judge.specs.declared.Refusal.{Refusal}
+use Rattle.judge.specs.declared.Refusal.the-variants.{Program, Count, Record, Lines}
 use Rattle.judge.specs.Answers as records
 use Rattle.judge.specs.Judging as judging
-use Rattle.judge.specs.Functions.{judgement, ourJudge}
-use Rattle.judge.specs.Functions.{counted as tallied}
+use Rattle.judge.specs.Functions.{saidOf, counted as tallied, judgement, ourJudge}
 use Rattle.judge.proofs.Answered.{judge-given, only-judged}
-use Rattle.judge.proofs.Counting.{refused-number, declined-number}
+use Rattle.judge.proofs.Counting.{record-number, number-between, number-one}
 use Rattle.judge.proofs.Counting.{roomy as never-short}
+use Rattle.run.specs.Damage.{OneMore}
 use Rattle.run.proofs.Damaged.{one-refused}
-use Rattle.claims.specs.Ours as ours
-use Rattle.claims.specs.Ours.{ourCompiler}
 use Rattle.claims.specs.DemandOne.{OfText, verdict, refusal, OfRecord, DemandOne}
 
 -- ---- texts
@@ -27,18 +31,27 @@ use Rattle.claims.specs.DemandOne.{OfText, verdict, refusal, OfRecord, D
 module _ {text buffer : List ℕ} where
   -- by the answer, where no other is given
   of-text : (o : texts.Outcome) → texts.Answers text (length buffer) o → ((p : texts.Outcome) → texts.Answers text (length buffer) p → o ≡ p)
-      → OfText text buffer (ours.compiling o buffer)
+      → OfText text buffer (functions.compiling o buffer)
   of-text (texts.compiled r) a only = record {
     numbered = omega arith;
-    refuses = λ n place h. (λ e. absurd (omega arith), λ b. let z : _≡_ {A = ℕ} 0 1 = cc (only (texts.refused n place) b) in absurd (omega arith));
+    refuses = λ why place. (
+      λ e. absurd (omega (arith, e .0, filter.number-between why)),
+      λ b. let z : _≡_ {A = ℕ} 0 1 = cc (only (texts.refused why place) b) in absurd (omega arith),
+    );
     leaves = λ h. absurd (omega arith);
     answer = texts.compiled r;
     given = a;
     is = refl;
   }
   of-text (texts.refused m q) a only = record {
-    numbered = refused-numbered a .1;
-    refuses = λ n place h. (λ e. rw (← e .0, ← e .1) a, λ b. (cc (only (texts.refused n place) b), cc (only (texts.refused n place) b)));
+    numbered = filter.number-between m .1;
+    refuses = λ why place. (
+      λ e. rw (← filter.number-one m why (e .0), ← e .1) a,
+      λ b. (
+        ap (λ (o : texts.Outcome). functions.compiling o buffer .number) (only (texts.refused why place) b),
+        ap (λ (o : texts.Outcome). functions.compiling o buffer .value) (only (texts.refused why place) b),
+      ),
+    );
     leaves = λ h. refl;
     answer = texts.refused m q;
     given = a;
@@ -47,22 +60,34 @@ module _ {text buffer : List ℕ} where
 
 -- ---- records
 
--- a refusal that isn't counted leaves the tally
-as-it-was : (n : ℕ) (counting : Option Tally) → tallied (records.declined n) counting ≡ counting
-as-it-was n none = refl
-as-it-was n (some t) = refl
+-- a refusal of a record is counted
+one-more : (why : Refusal) (counting : Option Tally) → records.numberOf why ≤ 18 → OneMore (tallied (records.refused why) counting) counting
+unfolding records.numberOf
+one-more (Record why) counting h = one-refused why counting
+one-more Program counting h = absurd (omega arith)
+one-more Count counting h = absurd (omega arith)
+one-more Lines counting h = absurd (omega arith)
+
+-- the others leave the tally
+as-it-was : (why : Refusal) (counting : Option Tally) → 19 ≤ records.numberOf why → tallied (records.refused why) counting ≡ counting
+as-it-was (Record why) counting h = absurd (omega (arith, record-number why))
+as-it-was Program none h = refl
+as-it-was Program (some t) h = refl
+as-it-was Count none h = refl
+as-it-was Count (some t) h = refl
+as-it-was Lines none h = refl
+as-it-was Lines (some t) h = refl
 
 module _ (program bytes lines : List ℕ) (counting : Option Tally) where
   abbrev Given : records.Outcome → Type 1
   Given o = records.Answers program bytes (length lines) counting o
 
   -- a verdict is no refusal
-  of-verdict : (o : records.Outcome) → Given o → judging.saidOf o .0 ≤ 1 → ((n : ℕ) → Given (records.refused n) → ⊥) → ((n : ℕ) → Given (records.declined n) → ⊥)
+  of-verdict : (o : records.Outcome) → Given o → saidOf o .0 ≤ 1 → ((why : Refusal) → Given (records.refused why) → ⊥)
       → OfRecord program bytes lines counting (judgement o lines counting)
-  of-verdict o a small no-refusal no-decline = record {
+  of-verdict o a small no-refusal = record {
     numbered = verdict small;
-    refuses = λ n h k. (λ e. absurd (omega arith), λ b. absurd (no-refusal n b));
-    declines = λ n h k. (λ e. absurd (omega arith), λ b. absurd (no-decline n b));
+    refuses = λ why. (λ e. absurd (omega (arith, e, number-between why)), λ b. absurd (no-refusal why b));
     leaves = λ h. absurd (omega arith);
     counts = λ h k. absurd (omega arith);
     uncounted = λ h. absurd (omega arith);
@@ -74,42 +99,23 @@ module _ (program bytes lines : List ℕ) (counting : Option Tally) where
 
   -- by the answer, where no other is given
   of-record : (o : records.Outcome) → Given o → ((p : records.Outcome) → Given p → o ≡ p) → OfRecord program bytes lines counting (judgement o lines counting)
+  unfolding records.numberOf
   of-record (records.kept steps text) a only =
-      of-verdict (records.kept steps text) a (omega arith)
-      (λ n b. let z : _≡_ {A = ℕ} 0 1 = cc (only (records.refused n) b) in omega arith)
-      (λ n b. let z : _≡_ {A = ℕ} 0 1 = cc (only (records.declined n) b) in omega arith)
+      of-verdict (records.kept steps text) a (omega arith) (λ why b. let z : _≡_ {A = ℕ} 0 1 = cc (only (records.refused why) b) in omega arith)
   of-record (records.dropped steps) a only =
-      of-verdict (records.dropped steps) a (omega arith)
-      (λ n b. let z : _≡_ {A = ℕ} 0 1 = cc (only (records.refused n) b) in omega arith)
-      (λ n b. let z : _≡_ {A = ℕ} 0 1 = cc (only (records.declined n) b) in omega arith)
-  of-record (records.refused m) a only =
-      let i = refused-number a in
-      record {
-        numbered = refusal (i .0) (omega arith);
-        refuses = λ n h k. (λ e. rw (← e) a, λ b. cc (only (records.refused n) b));
-        declines = λ n h k. (λ e. absurd (omega arith), λ b. let z : _≡_ {A = ℕ} 0 1 = cc (only (records.declined n) b) in absurd (omega arith));
-        leaves = λ h. (refl, refl);
-        counts = λ h k. one-refused m counting;
-        uncounted = λ h. absurd (omega arith);
-        roomy = λ h e. omega arith;
-        answer = records.refused m;
-        given = a;
-        is = refl;
-      }
-  of-record (records.declined m) a only =
-      let i = declined-number a in
-      record {
-        numbered = refusal (omega arith) (i .1);
-        refuses = λ n h k. (λ e. absurd (omega arith), λ b. let z : _≡_ {A = ℕ} 0 1 = cc (only (records.refused n) b) in absurd (omega arith));
-        declines = λ n h k. (λ e. rw (← e) a, λ b. cc (only (records.declined n) b));
-        leaves = λ h. (refl, refl);
-        counts = λ h k. absurd (omega arith);
-        uncounted = λ h. as-it-was m counting;
-        roomy = λ h e. never-short h (rw e at a);
-        answer = records.declined m;
-        given = a;
-        is = refl;
-      }
+      of-verdict (records.dropped steps) a (omega arith) (λ why b. let z : _≡_ {A = ℕ} 0 1 = cc (only (records.refused why) b) in omega arith)
+  of-record (records.refused m) a only = record {
+    numbered = refusal (number-between m .0) (number-between m .1);
+    refuses = λ why.
+        (λ e. rw (← number-one m why e) a, λ b. ap (λ (o : records.Outcome). saidOf o .0) (only (records.refused why) b));
+    leaves = λ h. (refl, refl);
+    counts = λ h k. one-more m counting k;
+    uncounted = λ h. as-it-was m counting h;
+    roomy = λ h e. never-short h (rw (number-one m Lines e) at a);
+    answer = records.refused m;
+    given = a;
+    is = refl;
+  }
 
 -- demand 1
 pub demand-one : DemandOne ourCompiler ourJudge
@@ -117,4 +123,6 @@ demand-one = record {
   texts = λ text buffer. of-text (compiling.answer text (length buffer)) (answer-given text (length buffer)) (λ p a. only-answer text (length buffer) a);
   records = λ program bytes lines counting p b.
       of-record program bytes lines counting (judging.judgeOf program bytes (length lines) counting) (judge-given p b) (λ o a. only-judged p b a);
+  possible = given-possible;
+  truthful = record-means;
 }

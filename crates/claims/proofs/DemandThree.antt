@@ -5,45 +5,50 @@ use mathlib.Core.Path.{_≡_, refl, sym, ap, _∙_}
 use mathlib.Core.Bool.{Bool, true, false}
 use mathlib.Core.List.{List, _++_}
 use mathlib.Core.Logic.{_↔_}
-use mathlib.Core.Option.{Option}
+use mathlib.Core.Option.{Option, some}
 use lib.ListN.{length, drop}
 use lib.Seq.{take-at}
+use lib.Dec.{ltb}
 use borrow.Author.Tests.{le-ltb, eq-eqb}
+use Rattle.octets.specs.Choice.{pick}
+use Rattle.octets.proofs.Choices.{never}
 use Rattle.message.specs.Message.{Message}
 use Rattle.message.specs.Represents.{Represents}
+use Rattle.message.proofs.ReadableRecords.{readable-represents, represents-readable}
 use Rattle.line.specs.Line.{linesOf}
 use Rattle.program.specs.Readings.{Reading, weight, verdict, steps}
 use Rattle.program.specs.Records.{weightLimit}
 use Rattle.program.specs.Layout.{recordSize}
 use Rattle.program.specs.Compiling.{records, programOf}
 use Rattle.program.proofs.LayoutLaws.{encodeAll-length}
-use Rattle.program.proofs.MachineLaws.{length-records, steps-least}
-use Rattle.program.proofs.ReadingValid.{PossibleReading, records-possible}
+use Rattle.program.proofs.MachineLaws.{length-records}
+use Rattle.program.proofs.ReadingValid.{records-possible}
 use Rattle.truth.specs.Means.{isTrue}
-use Rattle.truth.specs.Verdict.{Keeps, Drops}
-use Rattle.truth.proofs.Addresses.{represented-addressed, reading-addressed}
-use Rattle.truth.proofs.Machines.{machine-truth}
-use Rattle.truth.proofs.Verdicts.{keeps-exactly, drops-exactly}
-use Rattle.token.specs.Tokens.{Placed, Lexes}
-use Rattle.token.proofs.Lexing.{lexes-once, unclosed-none}
-use Rattle.token.proofs.AllowedBytes.{forbidden-none}
-use Rattle.filter.specs.Answers.{Fine, Derived, Outcome, compiled, refused, Answers}
+use Rattle.truth.specs.Verdict.{Keeps, Drops, HasVerdict, Steps}
+use Rattle.truth.proofs.Addresses.{OperandsAddressed, represented-addressed, reading-addressed}
+use Rattle.truth.proofs.Machines.{machine-exactly}
+use Rattle.truth.proofs.StepCounts.{steps-exactly, few-steps}
+use Rattle.truth.proofs.Verdicts.{verdict-exactly}
+use Rattle.token.proofs.Lexing.{lexes-once}
+use Rattle.filter.specs.Answers.{Derived, Outcome, compiled, refused, Answers}
 use Rattle.filter.specs.Answers as words
-use Rattle.filter.specs.Answering.{answer, saidOf}
-use Rattle.filter.specs.Refused.{FirstRefused}
+use Rattle.filter.specs.Answering.{answer}
+use Rattle.filter.specs.Functions.{Compiling, reported, compiling, ourCompiler}
 use Rattle.filter.proofs.Complete as complete
 use Rattle.filter.proofs.CompiledValid.{reads-possible}
 use Rattle.filter.proofs.Answered.{answer-given, only-answer}
-use Rattle.filter.proofs.Refusals.{has-numbered}
-use Rattle.filter.proofs.RefusedTexts.{first-refused, refused-numbered}
+use Rattle.filter.proofs.Numbers.{number-between}
+use Rattle.filter.proofs.RefusedTexts.{first-refused}
 use Rattle.judge.specs.declared.Tally.{Tally}
 use Rattle.judge.specs.Tallies.{FullTally}
+use Rattle.judge.specs.declared.Refusal.the-variants.{Lines}
+use Rattle.judge.specs.Answers.{numberOf, kept}
+use Rattle.judge.specs.Answers.{refused as judge-refused}
 use Rattle.judge.specs.Judging.{judgedBy, judgeOf}
-use Rattle.judge.specs.Functions.{Judge, ourJudge}
+use Rattle.judge.specs.Functions.{Judging, saidOf, judgement, ourJudge}
 use Rattle.judge.proofs.Readings.{reading-judged}
-use Rattle.claims.specs.Functions.{Compiling, reported, judgedWith}
-use Rattle.claims.specs.Ours.{ourCompiler}
-use Rattle.claims.specs.DemandThree.{Compiles, JudgedSo, DemandThree}
+use Rattle.claims.specs.Functions.{judgedWith}
+use Rattle.claims.specs.DemandThree.{Compiles, JudgedSo, DemandThreeAt, DemandThree}
 
 -- a text has one reading
 one-reading : {text : List ℕ} {r s : Reading} → Derived text r → Derived text s → r ≡ s
@@ -53,9 +58,9 @@ one-reading {r = r} {s} d e = by-tokens (lexes-once (d .lexed) (e .lexed))
     by-tokens p = complete.one-reading (d .reads) (rw p (e .reads))
 
 -- an answer of 0 is a program
-compiled-only : {text : List ℕ} {room : ℕ} (o : Outcome) → Answers text room o → saidOf o .0 ≡ 0 → (r : Reading) × (o ≡ compiled r)
-compiled-only (compiled r) a e = (r, refl)
-compiled-only (refused n p) a e = absurd (omega (arith, refused-numbered a))
+compiled-only : (o : Outcome) (buffer : List ℕ) → compiling o buffer .number ≡ 0 → (r : Reading) × (o ≡ compiled r)
+compiled-only (compiled r) buffer e = (r, refl)
+compiled-only (refused why p) buffer e = absurd (omega (arith, number-between why))
 
 -- and what the words ask for then
 pub compiled-compiles : {text : List ℕ} {room : ℕ} {r : Reading} → Answers text room (compiled r) → Compiles text room
@@ -80,16 +85,16 @@ module _ (text buffer : List ℕ) where
     where
       forth : ourCompiler text buffer .number ≡ 0 → Compiles text (length buffer)
       forth e =
-          let x = compiled-only (answer text (length buffer)) (answer-given text (length buffer)) e in
+          let x = compiled-only (answer text (length buffer)) buffer e in
           compiled-compiles (rw (x .1) at (answer-given text (length buffer)))
 
       back : Compiles text (length buffer) → ourCompiler text buffer .number ≡ 0
-      back c = ap (λ (o : Outcome). saidOf o .0) (only-answer text (length buffer) (words.compiles (c .fine) (c .derives) (c .light) (c .fits)))
+      back c = ap (λ (o : Outcome). compiling o buffer .number) (only-answer text (length buffer) (words.compiles (c .fine) (c .derives) (c .light) (c .fits)))
 
   -- the answer is the text's reading
   reading-is : {r : Reading} → ourCompiler text buffer .number ≡ 0 → Derived text r → (answer text (length buffer) ≡ compiled r) × (weight r ≤ weightLimit)
   reading-is {r} e d =
-      let x = compiled-only (answer text (length buffer)) (answer-given text (length buffer)) e in
+      let x = compiled-only (answer text (length buffer)) buffer e in
       let y = compiled-reading (rw (x .1) at (answer-given text (length buffer))) d in
       (x .1 ∙ ap compiled (y .0), rw (y .0) at (y .1))
 
@@ -110,46 +115,68 @@ module _ (text buffer : List ℕ) where
       → judgeOf (reported (ourCompiler text buffer)) bytes room counting ≡ judgedBy room m (b, steps (isTrue m) r)
   judges {r} e d x f room h = rw (reported-is e d) (reading-judged r (reads-possible (d .reads)) (reading-is e d .1) x f room h)
 
-  -- where the text compiles, judging is what is done
-  judged-with : (judge : Judge) (bytes lines : List ℕ) (counting : Option Tally) → ourCompiler text buffer .number ≡ 0
-      → judgedWith judge (ourCompiler text buffer) bytes lines counting ≡ judge (reported (ourCompiler text buffer)) bytes lines counting
-  judged-with judge bytes lines counting e = rw (eq-eqb _ _ e)
+  -- where the text compiles, the record is judged
+  judged-with : (bytes lines : List ℕ) (counting : Option Tally) → ourCompiler text buffer .number ≡ 0
+      → judgedWith ourJudge (ourCompiler text buffer) bytes lines counting ≡ some (ourJudge (reported (ourCompiler text buffer)) bytes lines counting)
+  judged-with bytes lines counting e = rw (eq-eqb _ _ e)
 
-  -- what is claimed of judging a record
-  judged-so : {r : Reading} → ourCompiler text buffer .number ≡ 0 → Derived text r → (bytes lines : List ℕ) (counting : Option Tally) {m : Message} → Represents m bytes
-      → JudgedSo r m lines counting (ourCompiler text buffer) (judgedWith ourJudge (ourCompiler text buffer) bytes lines counting)
-  judged-so {r} e d bytes lines counting {m} x =
-      let p : PossibleReading r = reads-possible (d .reads) in
-      let w : weight r ≤ weightLimit = reading-is e d .1 in
-      let k : (verdict (isTrue m) r ≡ true) ↔ Keeps m r = keeps-exactly (represented-addressed x) r (reading-addressed r p) in
-      let n : (verdict (isTrue m) r ≡ false) ↔ Drops m r = drops-exactly (represented-addressed x) r (reading-addressed r p) in
+-- ---- the verdict and the steps of judging, by the verdict that is computed
+
+-- what is kept or has no room isn't dropped
+pub not-dropped : (b : Bool) (n : ℕ) (lines : List ℕ) → saidOf (pick b (judge-refused Lines) (kept n lines)) .0 ≡ 0 → ⊥
+unfolding numberOf
+not-dropped true n lines e = omega arith
+not-dropped false n lines e = omega arith
+
+module _ {r : Reading} {m : Message} (lines : List ℕ) (counting : Option Tally) (count : ℕ) (counted : (n : ℕ) → (count ≡ n) ↔ Steps m r n)
+    (told : (b : Bool) → (verdict (isTrue m) r ≡ b) ↔ HasVerdict m r b) where
+  abbrev answer-by : Bool → Judging
+  answer-by b = judgement (judgedBy (length lines) m (b, count)) lines counting
+
+  -- kept, where there is room
+  keeps-by : (b : Bool) → verdict (isTrue m) r ≡ b → length (linesOf m) ≤ length lines → {n : ℕ}
+      → ((answer-by b .number ≡ 1) × (answer-by b .steps ≡ n)) ↔ (Keeps m r × Steps m r n)
+  keeps-by true e h {n} = rw (le-ltb (length lines) (length (linesOf m)) h) (λ x. (told true .0 e, counted n .0 (x .1)), λ y. (refl, counted n .1 (y .1)))
+  keeps-by false e h = (λ x. absurd (omega (arith, x .0)), λ y. absurd (never (sym e ∙ told true .1 (y .0))))
+
+  -- dropped
+  drops-by : (b : Bool) → verdict (isTrue m) r ≡ b → {n : ℕ} → ((answer-by b .number ≡ 0) × (answer-by b .steps ≡ n)) ↔ (Drops m r × Steps m r n)
+  drops-by true e =
+      (λ x. absurd (not-dropped (ltb (length lines) (length (linesOf m))) count (linesOf m) (x .0)), λ y. absurd (never (sym (told false .1 (y .0)) ∙ e)))
+  drops-by false e {n} = (λ x. (told false .0 e, counted n .0 (x .1)), λ y. (refl, counted n .1 (y .1)))
+
+-- what is claimed of judging a record
+module _ (text buffer bytes lines : List ℕ) (counting : Option Tally) {r : Reading} (e : ourCompiler text buffer .number ≡ 0) (d : Derived text r)
+    {m : Message} (x : Represents m bytes) where
+  operands : OperandsAddressed r
+  operands = reading-addressed r (reads-possible (d .reads))
+
+  judged-so : JudgedSo r m lines counting (ourCompiler text buffer) (ourJudge (reported (ourCompiler text buffer)) bytes lines counting)
+  judged-so =
+      let v : (b : Bool) → (verdict (isTrue m) r ≡ b) ↔ HasVerdict m r b = λ b. verdict-exactly (represented-addressed x) r operands in
+      let s : (n : ℕ) → (steps (isTrue m) r ≡ n) ↔ Steps m r n = λ n. steps-exactly (represented-addressed x) r operands in
       record {
-        machine-agrees = rw (reported-is e d) (machine-truth m r (records-possible r p w));
-        keeps = k;
-        drops = n;
-        judging-keeps = λ f l y. rw (judged-with ourJudge bytes lines counting e, judges e d x f (length lines) (k .1 y), le-ltb (length lines) (length (linesOf m)) l) (refl, refl);
-        judging-drops = λ f y. rw (judged-with ourJudge bytes lines counting e, judges e d x f (length lines) (n .1 y)) (refl, refl);
-        few = steps-least (isTrue m) r;
+        machine-gives = rw (reported-is text buffer e d)
+            (machine-exactly (represented-addressed x) operands (records-possible r (reads-possible (d .reads)) (reading-is text buffer e d .1)));
+        judging-keeps = λ f l. rw (judges text buffer e d x f (length lines) refl) (keeps-by lines counting (steps (isTrue m) r) s v (verdict (isTrue m) r) refl l);
+        judging-drops = λ f. rw (judges text buffer e d x f (length lines) refl) (drops-by lines counting (steps (isTrue m) r) s v (verdict (isTrue m) r) refl);
+        few = few-steps;
       }
 
--- a text that isn't derived is refused by 4, 5 or 6
-refused-only : {text : List ℕ} {room : ℕ} (o : Outcome) → Answers text room o → Fine text → {tokens : List Placed} → Lexes 0 text tokens → ((r : Reading) → Derived text r → ⊥)
-    → FirstRefused text (saidOf o .0) (saidOf o .1)
-refused-only o (words.too-long h) f l n = absurd (omega (arith, f .short))
-refused-only o (words.forbidden h x) f l n = absurd (forbidden-none x (f .allowed))
-refused-only o (words.unclosed g u) f l n = absurd (unclosed-none u l)
-refused-only {room = room} o (words.bad-first g x h) f l n = first-refused {room = room} (has-numbered h .0) (has-numbered h .1) (words.bad-first g x h)
-refused-only {room = room} o (words.bad-end ts g k w h) f l n = first-refused {room = room} (omega arith) (omega arith) (words.bad-end ts g k w h)
-refused-only o (words.too-heavy {r} g d w) f l n = absurd (n r (d .derived))
-refused-only o (words.no-room {r} g d w k) f l n = absurd (n r (d .derived))
-refused-only o (words.compiles {r} g d w k) f l n = absurd (n r (d .derived))
-
 -- demand 3
-pub demand-three : DemandThree ourCompiler ourJudge
-demand-three text buffer bytes lines counting = record {
+at : (text buffer bytes lines : List ℕ) (counting : Option Tally)
+    → DemandThreeAt text buffer bytes lines counting (ourCompiler text buffer) (judgedWith ourJudge (ourCompiler text buffer) bytes lines counting)
+at text buffer bytes lines counting = record {
   compiles = exactly text buffer;
   one-reading = one-reading;
   records = gives text buffer;
-  judged = λ e d x. judged-so text buffer e d bytes lines counting x;
-  refused = λ f l n. refused-only (answer text (length buffer)) (answer-given text (length buffer)) f l n;
+  judged = λ e d x. (
+    ourJudge (reported (ourCompiler text buffer)) bytes lines counting,
+    judged-with text buffer bytes lines counting e,
+    judged-so text buffer bytes lines counting e d x,
+  );
+  refused = λ f l n. first-refused buffer (answer-given text (length buffer)) f l n;
 }
+
+pub demand-three : DemandThree ourCompiler ourJudge
+demand-three = record { anywhere = at; readable = λ o. (readable-represents o, λ x. represents-readable (x .1)) }

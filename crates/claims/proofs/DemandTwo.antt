@@ -2,19 +2,19 @@
 use mathlib.Core.Path.{ap}
 use lib.ListN.{length}
 use Rattle.message.proofs.ReadableRecords.{readable-represents, represents-readable}
-use Rattle.judge.specs.Answers.{Outcome}
-use Rattle.judge.specs.Judging.{saidOf}
-use Rattle.judge.specs.Functions.{ourJudge}
+use Rattle.filter.specs.Functions.{ourCompiler}
+use Rattle.judge.specs.Answers.{numberOf, Outcome}
+use Rattle.judge.specs.Functions.{saidOf, ourJudge}
 use Rattle.judge.proofs.Answered.{refused-judged}
 use Rattle.run.specs.Runs.{runnerOf}
 use Rattle.run.proofs.RunOver.{runs-over}
 use Rattle.run.proofs.Damaged.{changes-nothing}
-use Rattle.claims.specs.Ours.{ourCompiler}
 use Rattle.claims.specs.DemandTwo.{DemandTwo}
 use Rattle.claims.proofs.OnMessages.{on-message}
 use Rattle.claims.proofs.WholeNumbers.{whole}
 
 pub demand-two : DemandTwo ourCompiler ourJudge (runnerOf ourJudge)
+unfolding numberOf
 demand-two = record {
   readable = λ o. (readable-represents o, λ x. represents-readable (x .1));
   on-message = λ {text} {buffer} e d x lines counting f. on-message text buffer e d x lines counting f;

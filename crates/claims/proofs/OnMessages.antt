@@ -9,48 +9,39 @@ use mathlib.Core.Option.{Option}
 use lib.ListN.{length}
 use lib.Dec.{ltb}
 use borrow.Author.Tests.{le-ltb}
-use Rattle.octets.specs.Choice.{pick}
 use Rattle.octets.proofs.Choices.{never}
 use Rattle.message.specs.Message.{Message}
 use Rattle.message.specs.Represents.{Represents}
 use Rattle.line.specs.Line.{linesOf}
-use Rattle.line.specs.Answer.{shortNumber}
 use Rattle.program.specs.Readings.{Reading, verdict, steps}
 use Rattle.truth.specs.Means.{isTrue}
-use Rattle.truth.specs.Verdict.{Keeps, Drops}
+use Rattle.truth.specs.Verdict.{HasVerdict}
 use Rattle.truth.proofs.Addresses.{represented-addressed, reading-addressed}
-use Rattle.truth.proofs.Verdicts.{keeps-exactly, drops-exactly}
+use Rattle.truth.proofs.Verdicts.{verdict-exactly}
+use Rattle.filter.specs.Answers.{Derived}
+use Rattle.filter.specs.Functions.{reported, ourCompiler}
 use Rattle.filter.proofs.CompiledValid.{reads-possible}
 use Rattle.judge.specs.declared.Tally.{Tally}
 use Rattle.judge.specs.Tallies.{FullTally}
-use Rattle.judge.specs.Answers.{kept, declined}
-use Rattle.judge.specs.Judging.{judgedBy, saidOf}
+use Rattle.judge.specs.Judging.{judgedBy}
 use Rattle.judge.specs.Functions.{judgement, ourJudge}
-use Rattle.claims.specs.Functions.{reported}
-use Rattle.claims.specs.Ours.{ourCompiler}
-use Rattle.filter.specs.Answers.{Derived}
 use Rattle.claims.specs.DemandTwo.{OnMessage}
-use Rattle.claims.proofs.DemandThree.{judges}
-
--- what is kept or has no room isn't dropped
-not-dropped : (b : Bool) (n : ℕ) (lines : List ℕ) → saidOf (pick b (declined shortNumber) (kept n lines)) .0 ≡ 0 → ⊥
-not-dropped true n lines e = omega arith
-not-dropped false n lines e = omega arith
+use Rattle.claims.proofs.DemandThree.{judges, not-dropped}
 
 -- by the verdict
 module _ (r : Reading) (m : Message) (lines : List ℕ) (counting : Option Tally) (n : ℕ)
-    (k : (verdict (isTrue m) r ≡ true) ↔ Keeps m r) (d : (verdict (isTrue m) r ≡ false) ↔ Drops m r) where
+    (told : (b : Bool) → (verdict (isTrue m) r ≡ b) ↔ HasVerdict m r b) where
   by-verdict : (b : Bool) → verdict (isTrue m) r ≡ b → OnMessage r m lines (judgement (judgedBy (length lines) m (b, n)) lines counting)
   by-verdict true e = record {
-    keeps = λ h. (λ x. k .0 e, λ y. rw (le-ltb _ _ h));
-    drops = (λ x. absurd (not-dropped (ltb (length lines) (length (linesOf m))) n (linesOf m) x), λ y. absurd (never (sym (d .1 y) ∙ e)));
+    keeps = λ h. (λ x. told true .0 e, λ y. rw (le-ltb _ _ h));
+    drops = (λ x. absurd (not-dropped (ltb (length lines) (length (linesOf m))) n (linesOf m) x), λ y. absurd (never (sym (told false .1 y) ∙ e)));
     printed = λ h y. rw (le-ltb _ _ h) (refl, refl);
-    silent = λ y. absurd (never (sym (d .1 y) ∙ e));
+    silent = λ y. absurd (never (sym (told false .1 y) ∙ e));
   }
   by-verdict false e = record {
-    keeps = λ h. (λ x. absurd (omega arith), λ y. absurd (never (sym e ∙ k .1 y)));
-    drops = (λ x. d .0 e, λ y. refl);
-    printed = λ h y. absurd (never (sym e ∙ k .1 y));
+    keeps = λ h. (λ x. absurd (omega arith), λ y. absurd (never (sym e ∙ told true .1 y)));
+    drops = (λ x. told false .0 e, λ y. refl);
+    printed = λ h y. absurd (never (sym e ∙ told true .1 y));
     silent = λ y. (refl, refl);
   }
 
@@ -61,5 +52,4 @@ pub on-message : (text buffer : List ℕ) {r : Reading} → ourCompiler text buf
 on-message text buffer {r} e d {m} x lines counting f =
     let p = reading-addressed r (reads-possible (d .reads)) in
     rw (judges text buffer e d x f (length lines) refl)
-    (by-verdict r m lines counting (steps (isTrue m) r) (keeps-exactly (represented-addressed x) r p) (drops-exactly (represented-addressed x) r p)
-    (verdict (isTrue m) r) refl)
+    (by-verdict r m lines counting (steps (isTrue m) r) (λ b. verdict-exactly (represented-addressed x) r p) (verdict (isTrue m) r) refl)

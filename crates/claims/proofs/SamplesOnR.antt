@@ -1,24 +1,33 @@
--- Samples for the theorems of ShutOut: `-loops`, `! -loops` and `-bogon-asn` on R. Assumes nothing.
+-- Samples for the theorems of ShutOut: texts on R, and one on a record of another path. Assumes nothing.
 use Prim.Native.Nat.{ℕ, zero, suc, _*_, _≤_}
 use native.Mathlib.Omega.{arith}
-use mathlib.Core.Path.{_≡_, refl}
-use mathlib.Core.List.{List, [], _++_}
+use mathlib.Core.Path.{_≡_, refl, ap}
+use mathlib.Core.Bool.{false}
+use mathlib.Core.List.{List, [], _∷_, _++_}
 use mathlib.Core.Option.{some, none}
 use lib.ListN.{length, getD, drop, replicate, length-replicate}
 use borrow.Author.Tests.{eq-eqb}
 use Rattle.octets.proofs.Choices.{never}
+use Rattle.aspath.specs.declared.Width.the-variants.{Four}
+use Rattle.aspath.specs.Bogons.{bogons}
 use Rattle.message.specs.Message.{Message}
+use Rattle.message.specs.Represents.{Represents}
 use Rattle.line.specs.Line.{linesOf}
-use Rattle.program.specs.Readings.{hasLoop, hasBogon, Reading, test, neg, itemCount, weight, steps}
+use Rattle.program.specs.Readings.{hasLoop, hasBogon, and, Reading, test, neg, joint, itemCount, weight, steps}
 use Rattle.program.specs.Layout.{recordSize}
 use Rattle.program.specs.Compiling.{programOf}
-use Rattle.truth.specs.Means.{isTrue}
+use Rattle.truth.specs.Means.{Means, loop, bogon, isTrue}
+use Rattle.truth.specs.Verdict.{Drops, is-true, is-false, right-drops, and-kept, Steps, of-test, of-both}
+use Rattle.truth.proofs.Addresses.{represented-addressed, reading-addressed}
+use Rattle.truth.proofs.Meanings.{path-one}
+use Rattle.truth.proofs.Verdicts.{verdict-exactly}
+use Rattle.filter.specs.Functions.{Compiler, reported}
 use Rattle.filter.proofs.CompiledValid.{reads-possible}
 use Rattle.judge.specs.declared.Tally.{Tally}
 use Rattle.judge.specs.Tallies.{FullTally, isFull, tally}
 use Rattle.judge.specs.Answers.{dropped}
 use Rattle.judge.specs.Judging.{judgeOf}
-use Rattle.judge.specs.Functions.{Judge, ourJudge}
+use Rattle.judge.specs.Functions.{Judge}
 use Rattle.judge.proofs.Readings.{reading-judged}
 use Rattle.judge.proofs.Tallies.{tally-complete}
 use Rattle.run.specs.Runs.{Runner}
@@ -26,28 +35,31 @@ use Rattle.pairs.specs.RecordR.{recordR, messageR}
 use Rattle.pairs.proofs.RecordR.{record-represents}
 use Rattle.pairs.proofs.Texts.{TextOnR}
 use Rattle.pairs.proofs.Samples.{loops}
-use Rattle.claims.specs.Functions.{Compiler, reported}
-use Rattle.claims.specs.Ours.{ourCompiler}
-use Rattle.claims.specs.DemandTwo.{OnMessage, DemandTwo}
+use Rattle.claims.specs.DemandTwo.{OnMessage, Whole, DemandTwo}
 use Rattle.claims.specs.DemandThree.{Compiles, JudgedSo, DemandThree}
-use Rattle.claims.proofs.DemandThree.{demand-three, compiled-compiles, reported-front}
+use Rattle.claims.proofs.DemandThree.{compiled-compiles, reported-front}
+use Rattle.claims.proofs.WholeNumbers.{whole}
 
--- a buffer for two records
+-- a buffer for three records
 abbrev pub buffer : List ℕ
-buffer = replicate (recordSize * 2) 0
+buffer = replicate (recordSize * 3) 0
 
--- both texts of one word have one record
-pub few-loops : weight (test hasLoop) ≤ 2
+-- no text has more
+pub few-loops : weight (test hasLoop) ≤ 3
 unfolding weight itemCount
 few-loops = omega arith
 
-pub few-bogon : weight (test hasBogon) ≤ 2
+pub few-bogon : weight (test hasBogon) ≤ 3
 unfolding weight itemCount
 few-bogon = omega arith
 
-pub few-not : weight (neg (test hasLoop)) ≤ 2
+pub few-not : weight (neg (test hasLoop)) ≤ 3
 unfolding weight itemCount
 few-not = omega arith
+
+pub few-both : weight (joint and (test hasBogon) (test hasLoop)) ≤ 3
+unfolding weight itemCount
+few-both = omega arith
 
 -- just the room for R's lines
 abbrev pub room : List ℕ
@@ -73,19 +85,19 @@ pub room-to-count : FullTally (some none-seen) → ⊥
 unfolding isFull
 room-to-count f = never (tally-complete f)
 
-module _ {Verdict : Message → Reading → Type 0} {text : List ℕ} {r : Reading} {count : ℕ} (t : TextOnR Verdict text r count) (few : weight r ≤ 2) where
+module _ {Verdict : Message → Reading → Type 0} {text : List ℕ} {r : Reading} {count : ℕ} (t : TextOnR Verdict text r count) (few : weight r ≤ 3) where
   -- a sample compiles
   compiles : Compiles text (length buffer)
   compiles = compiled-compiles (t .compiles (length buffer) (omega arith))
 
   -- so a compiler for which demand 3 holds compiles it
   pub number-is : (compiler : Compiler) (judge : Judge) → DemandThree compiler judge → compiler text buffer .number ≡ 0
-  number-is compiler judge d = d text buffer [] [] none .compiles .1 compiles
+  number-is compiler judge d = d .anywhere text buffer [] [] none .compiles .1 compiles
 
   -- into the program of its reading
   records-are : (compiler : Compiler) (judge : Judge) → DemandThree compiler judge
       → (compiler text buffer .value ≡ length (programOf r)) × (compiler text buffer .buffer ≡ programOf r ++ drop (length (programOf r)) buffer)
-  records-are compiler judge d = d text buffer [] [] none .records (number-is compiler judge d) (t .derives .derived)
+  records-are compiler judge d = d .anywhere text buffer [] [] none .records (number-is compiler judge d) (t .derives .derived)
 
   -- and reports that program's bytes
   pub reported-are : (compiler : Compiler) (judge : Judge) → DemandThree compiler judge → reported (compiler text buffer) ≡ programOf r
@@ -99,14 +111,55 @@ module _ {Verdict : Message → Reading → Type 0} {text : List ℕ} {r : Readi
         → OnMessage r messageR lines (judge (reported (compiler text buffer)) recordR lines none)
     on-R other runner c d lines = d .on-message {buffer = buffer} (number-is compiler other c) (t .derives .derived) record-represents lines none uncounted
 
-    -- and of its steps
-    pub steps-on-R : DemandThree compiler judge → JudgedSo r messageR room none (compiler text buffer) (judge (reported (compiler text buffer)) recordR room none)
-    steps-on-R d =
+    -- and of its verdict and steps on any message
+    pub judged-on : DemandThree compiler judge → {m : Message} {bytes : List ℕ} → Represents m bytes → (lines : List ℕ)
+        → JudgedSo r m lines none (compiler text buffer) (judge (reported (compiler text buffer)) bytes lines none)
+    judged-on d {bytes = bytes} x lines =
         let e : compiler text buffer .number ≡ 0 = number-is compiler judge d in
-        rw (eq-eqb _ _ e) at (d text buffer recordR room none .judged e (t .derives .derived) record-represents)
+        let y = d .anywhere text buffer bytes lines none .judged e (t .derives .derived) x in
+        let same : judge (reported (compiler text buffer)) bytes lines none ≡ y .0 = cc (rw (eq-eqb _ _ e) at (y .1)) in
+        rw same (y .2)
 
 -- judging R with `-loops` drops it
 pub loops-drop : judgeOf (programOf (test hasLoop)) recordR 0 (some none-seen) ≡ dropped (steps (isTrue messageR) (test hasLoop))
 loops-drop =
-    reading-judged (test hasLoop) (reads-possible (loops .derives .derived .reads)) (omega (arith, few-loops)) record-represents room-to-count 0
-    (steps-on-R loops few-loops ourCompiler ourJudge demand-three .drops .1 (loops .verdict))
+    let p = reads-possible (loops .derives .derived .reads) in
+    reading-judged (test hasLoop) p (omega (arith, few-loops)) record-represents room-to-count 0 {b = false}
+    (verdict-exactly (represented-addressed record-represents) (test hasLoop) (reading-addressed (test hasLoop) p) .1 (loops .verdict))
+
+-- ---- a record whose path is AS 0 alone
+
+abbrev zero-sent : Whole Four 0
+zero-sent = whole Four 0 (omega arith)
+
+abbrev pub zero-message : Message
+zero-message = zero-sent .message
+
+abbrev pub zero-record : List ℕ
+zero-record = zero-sent .record-bytes
+
+pub zero-represents : Represents zero-message zero-record
+zero-represents = zero-sent .represents
+
+-- 0 is a bogon, and one member is no loop: `-bogon-asn -and -loops` looks at both and drops it
+has-bogon : Means zero-message hasBogon
+unfolding bogons
+has-bogon = bogon (zero-sent .path) (record {
+  n = 0;
+  place = 0;
+  within = omega arith;
+  holds = record { equal = refl };
+  bogon = record { row = 0; within = omega arith; above = omega arith; below = omega arith };
+})
+
+no-loop : Means zero-message hasLoop → ⊥
+no-loop (loop {members} h l) = by-path (path-one h (zero-sent .path))
+  where
+    by-path : members ≡ 0 ∷ [] → ⊥
+    by-path e = omega (arith, ap length e, l .before, l .after, l .within)
+
+pub zero-drops : Drops zero-message (joint and (test hasBogon) (test hasLoop))
+zero-drops = right-drops (is-false no-loop)
+
+pub zero-steps : Steps zero-message (joint and (test hasBogon) (test hasLoop)) 3
+zero-steps = of-both of-test (and-kept (is-true has-bogon)) of-test

@@ -20,6 +20,7 @@ use Rattle.walk.specs.Split.{IsRecord, Splits, nothing, placeIn}
 use Rattle.walk.specs.Steps.{placeAfter}
 use Rattle.walk.proofs.Splits.{splits-append, splits-rest}
 use Rattle.truth.specs.Means.{isTrue}
+use Rattle.filter.specs.Functions.{Compiler, reported}
 use Rattle.judge.specs.declared.Tally.{Tally}
 use Rattle.judge.specs.Tallies.{oneDropped}
 use Rattle.judge.specs.Answers.{dropped}
@@ -30,14 +31,14 @@ use Rattle.pairs.specs.RecordR.{recordR, messageR}
 use Rattle.pairs.proofs.RecordR.{record-represents}
 use Rattle.pairs.proofs.Texts.{TextOnR}
 use Rattle.pairs.proofs.KnownPairs.{not-loops}
-use Rattle.pairs.proofs.Samples.{loops, bogon}
-use Rattle.claims.specs.Functions.{Compiler, Walker, placeBy, stepBy}
+use Rattle.pairs.proofs.Samples.{loops, bogon, bogonAndLoopsText, bogon-and-loops}
+use Rattle.claims.specs.Functions.{Walker, placeBy, stepBy}
 use Rattle.claims.specs.Walk.{Walks}
 use Rattle.claims.specs.DemandOne.{DemandOne}
 use Rattle.claims.specs.DemandTwo.{DemandTwo}
 use Rattle.claims.specs.DemandThree.{DemandThree}
 use Rattle.claims.specs.Wrong.{RefusesAll, OneProgram, AlwaysKeeps, WritesNothing, StepsMadeUp, CountsNothing, ReadsAll, NeverMoves}
-use Rattle.claims.proofs.SamplesOnR.{room, room-enough, first-blank, none-seen, few-loops, few-bogon, few-not, uncounted, number-is, reported-are, on-R, steps-on-R, loops-drop}
+use Rattle.claims.proofs.SamplesOnR.{buffer, room, room-enough, first-blank, none-seen, few-loops, few-bogon, few-not, few-both, uncounted, number-is, reported-are, on-R, judged-on, loops-drop, zero-represents, zero-drops, zero-steps}
 
 -- ---- compilers
 
@@ -53,7 +54,7 @@ module _ (compiler : Compiler) (judge : Judge) where
       let e : _≡_ {A = ℕ} 6 7 = ap (λ (l : List ℕ). getD l 0 0) (sym (only loops few-loops) ∙ only bogon few-bogon) in
       omega arith
     where
-      only : {Verdict : Message → Reading → Type 0} {text : List ℕ} {r : Reading} {count : ℕ} → TextOnR Verdict text r count → weight r ≤ 2 → program ≡ programOf r
+      only : {Verdict : Message → Reading → Type 0} {text : List ℕ} {r : Reading} {count : ℕ} → TextOnR Verdict text r count → weight r ≤ 3 → program ≡ programOf r
       only t few = sym (wrong _ _ (number-is t few compiler judge d)) ∙ reported-are t few compiler judge d
 
 -- ---- judges
@@ -82,11 +83,14 @@ module _ (compiler : Compiler) (other judge : Judge) (runner : Runner) (c : Dema
       omega arith
 
 module _ (compiler : Compiler) (judge : Judge) where
-  -- one that makes its steps up: `-loops` takes one on R, `! -loops` two
-  pub steps-made-up : {count : ℕ} → StepsMadeUp count judge → DemandThree compiler judge → ⊥
+  -- one that makes its steps up: `-bogon-asn -and -loops` takes two on R, and three on a record that has a bogon
+  pub steps-made-up : {count : List ℕ → List ℕ → Option Tally → ℕ} → StepsMadeUp count judge → DemandThree compiler judge → ⊥
   steps-made-up {count} wrong d =
-      let one : count ≡ 1 = sym (wrong _ _ _ _) ∙ steps-on-R loops few-loops compiler judge d .judging-drops uncounted (loops .verdict) .1 ∙ loops .counted in
-      let two : count ≡ 2 = sym (wrong _ _ _ _) ∙ steps-on-R not-loops few-not compiler judge d .judging-keeps uncounted room-enough (not-loops .verdict) .1 ∙ not-loops .counted in
+      let steps : ℕ = count (reported (compiler bogonAndLoopsText buffer)) [] none in
+      let on-R = judged-on bogon-and-loops few-both compiler judge d record-represents [] in
+      let on-zero = judged-on bogon-and-loops few-both compiler judge d zero-represents [] in
+      let two : steps ≡ 2 = sym (wrong _ _ _ _) ∙ on-R .judging-drops uncounted .1 (bogon-and-loops .verdict, bogon-and-loops .counted) .1 in
+      let three : steps ≡ 3 = sym (wrong _ _ _ _) ∙ on-zero .judging-drops uncounted .1 (zero-drops, zero-steps) .1 in
       omega arith
 
   -- one that counts nothing: `-loops` drops R, which is one seen
@@ -116,14 +120,14 @@ two-records = splits-append (splits-append (splits-rest nothing) is-record) is-r
 pub reads-all : (walker : Walker) → ReadsAll walker → Walks walker → ⊥
 unfolding placeBy placeIn
 reads-all walker wrong w =
-    let e : _≡_ {A = ℕ} 24 12 = ap (λ (s : Step). placeAfter s 0) (sym (wrong _ 0) ∙ w .in-order two-records 0 (omega arith)) in
+    let e : _≡_ {A = ℕ} 24 12 = ap (λ (s : Step). placeAfter s 0) (sym (wrong _) ∙ w .in-order two-records 0 (omega arith)) in
     omega arith
 
 -- one that never moves: its second step would be its first
 pub never-moves : (walker : Walker) → NeverMoves walker → Walks walker → ⊥
 unfolding placeBy placeIn
 never-moves walker wrong w =
-    let held : placeBy walker (header ++ (header ++ [])) 1 ≡ 0 = wrong _ 0 in
+    let held : placeBy walker (header ++ (header ++ [])) 1 ≡ 0 = wrong _ in
     let same : stepBy walker (header ++ (header ++ [])) 1 ≡ stepBy walker (header ++ (header ++ [])) 0 = ap (λ (p : ℕ). walker (header ++ (header ++ [])) p .0) held in
     let e : _≡_ {A = ℕ} 24 12 =
     ap (λ (s : Step). placeAfter s 0) (sym (w .in-order two-records 1 (omega arith)) ∙ same ∙ w .in-order two-records 0 (omega arith)) in

@@ -1,29 +1,31 @@
 -- Demand 3, as a claim about a compiler and a judge: each clause under the demand's own words.
 use Prim.Native.Nat.{ℕ, _*_, _≤_}
 use mathlib.Core.Path.{_≡_}
-use mathlib.Core.Bool.{true, false}
+use mathlib.Core.Bool.{Bool}
 use mathlib.Core.List.{List, _++_}
 use mathlib.Core.Logic.{_↔_}
-use mathlib.Core.Option.{Option}
+use mathlib.Core.Option.{Option, some}
 use lib.ListN.{length, drop}
+use Rattle.octets.specs.Numbers.{Octets}
 use Rattle.message.specs.Message.{Message}
 use Rattle.message.specs.Represents.{Represents}
+use Rattle.message.specs.Refusals.{Readable}
 use Rattle.line.specs.Line.{linesOf}
-use Rattle.program.specs.Readings.{Reading, weight, verdict, steps}
+use Rattle.program.specs.Readings.{Reading, weight}
 use Rattle.program.specs.Records.{weightLimit}
 use Rattle.program.specs.Layout.{recordSize}
 use Rattle.program.specs.Compiling.{programOf}
 use Rattle.program.specs.Machine.{machine}
-use Rattle.truth.specs.Means.{isTrue}
 use Rattle.truth.specs.Records.{recordTruth}
-use Rattle.truth.specs.Verdict.{Keeps, Drops}
+use Rattle.truth.specs.Verdict.{Keeps, Drops, HasVerdict, Steps}
 use Rattle.token.specs.Tokens.{Placed, Lexes}
 use Rattle.filter.specs.Answers.{Fine, Derived, DerivedWithin}
 use Rattle.filter.specs.Refused.{FirstRefused}
+use Rattle.filter.specs.Functions.{Compiling, Compiler, reported}
 use Rattle.judge.specs.declared.Tally.{Tally}
 use Rattle.judge.specs.Tallies.{FullTally}
 use Rattle.judge.specs.Functions.{Judging, Judge}
-use Rattle.claims.specs.Functions.{Compiling, Compiler, reported, judgedWith}
+use Rattle.claims.specs.Functions.{judgedWith}
 
 -- "its size, bytes, quotes and nesting are as the paper allows, the grammar derives it, its weight is within the limit and the buffer holds its program": what
 -- filter/Answers asks in its rule `compiles`
@@ -37,19 +39,17 @@ pub record Compiles (text : List ℕ) (room : ℕ) : Type 0 where
 
 -- what is claimed of the reading of a text that compiles, of a readable record's message, and of judging it with the reported bytes
 pub record JudgedSo (r : Reading) (m : Message) (lines : List ℕ) (counting : Option Tally) (c : Compiling) (j : Judging) : Type 0 where
-  -- "the paper's machine .. give[s] exactly the reading's verdict and steps on that record"
-  pub machine-agrees : machine (recordTruth m) (reported c) ≡ (verdict (isTrue m) r, steps (isTrue m) r)
-  -- the verdict is what the words mean
-  pub keeps : (verdict (isTrue m) r ≡ true) ↔ Keeps m r
-  pub drops : (verdict (isTrue m) r ≡ false) ↔ Drops m r
+  -- "the paper's machine .. give[s] exactly the reading's verdict and steps on that record", which has therefore one verdict and one number of steps
+  pub machine-gives : {b : Bool} {n : ℕ} → (machine (recordTruth m) (reported c) ≡ (b, n)) ↔ (HasVerdict m r b × Steps m r n)
   -- "with no full tally and, if the reading keeps it, room for its lines, .. the judging .. give[s] exactly the reading's verdict and steps"
-  pub judging-keeps : (FullTally counting → ⊥) → length (linesOf m) ≤ length lines → Keeps m r → (j .number ≡ 1) × (j .steps ≡ steps (isTrue m) r)
-  pub judging-drops : (FullTally counting → ⊥) → Drops m r → (j .number ≡ 0) × (j .steps ≡ steps (isTrue m) r)
+  pub judging-keeps : (FullTally counting → ⊥) → length (linesOf m) ≤ length lines → {n : ℕ} → ((j .number ≡ 1) × (j .steps ≡ n)) ↔ (Keeps m r × Steps m r n)
+  pub judging-drops : (FullTally counting → ⊥) → {n : ℕ} → ((j .number ≡ 0) × (j .steps ≡ n)) ↔ (Drops m r × Steps m r n)
   -- "the steps never more than the text's weight"
-  pub few : steps (isTrue m) r ≤ weight r
+  pub few : {n : ℕ} → Steps m r n → n ≤ weight r
 
--- the demand at a text, a program buffer, a record, a line buffer and a tally or none; c is what compiling answers, j what judging with the reported bytes does
-pub record DemandThreeAt (text buffer bytes lines : List ℕ) (counting : Option Tally) (c : Compiling) (j : Judging) : Type 0 where
+-- the demand at a text, a program buffer, a record, a line buffer and a tally or none; c is what compiling answers, j what judging with the reported bytes
+-- does, if the text compiles
+pub record DemandThreeAt (text buffer bytes lines : List ℕ) (counting : Option Tally) (c : Compiling) (j : Option Judging) : Type 0 where
   -- "the text compiles exactly when .."
   pub compiles : (c .number ≡ 0) ↔ Compiles text (length buffer)
   -- "Each text that it derives has exactly one reading"
@@ -58,13 +58,16 @@ pub record DemandThreeAt (text buffer bytes lines : List ℕ) (counting : Option
   pub records : {r : Reading} → c .number ≡ 0 → Derived text r
       → (c .value ≡ length (programOf r)) × (c .buffer ≡ programOf r ++ drop (length (programOf r)) buffer)
   -- "Whichever readable record is then judged with that program, .."
-  pub judged : {r : Reading} → c .number ≡ 0 → Derived text r → {m : Message} → Represents m bytes → JudgedSo r m lines counting c j
+  pub judged : {r : Reading} → c .number ≡ 0 → Derived text r → {m : Message} → Represents m bytes
+      → (answer : Judging) × (j ≡ some answer) × JudgedSo r m lines counting c answer
   -- "A text of allowed size and bytes, with closed quotes, that the grammar doesn't derive is refused at the first token that no continuation allows, or at its
   -- end if there is no such token, unless an earlier token opens a level too many."
   pub refused : Fine text → {tokens : List Placed} → Lexes 0 text tokens → ((r : Reading) → Derived text r → ⊥) → FirstRefused text (c .number) (c .value)
 
--- "Whatever text and program buffer it is given, ..": all are free, and the program judged with is the bytes that compiling reported
-abbrev pub DemandThree : Compiler → Judge → Type 0
-DemandThree compiler judge = (text buffer bytes lines : List ℕ) (counting : Option Tally)
-    → let c = compiler text buffer in
-    DemandThreeAt text buffer bytes lines counting c (judgedWith judge c bytes lines counting)
+pub record DemandThree (compiler : Compiler) (judge : Judge) : Type 1 where
+  -- "Whatever text and program buffer it is given, ..": all are free, and the program judged with is the bytes that compiling reported
+  pub anywhere : (text buffer bytes lines : List ℕ) (counting : Option Tally)
+      → let c = compiler text buffer in
+      DemandThreeAt text buffer bytes lines counting c (judgedWith judge c bytes lines counting)
+  -- "readable": none of 11 to 18 is true of the record; just then it represents a message
+  pub readable : {bytes : List ℕ} → Octets bytes → Readable bytes ↔ ((m : Message) × Represents m bytes)

@@ -22,8 +22,8 @@ use Rattle.judge.specs.Tallies.{FullTally}
 use Rattle.judge.specs.Functions.{Judging, Judge}
 use Rattle.run.specs.Runs.{Runner, RunsOver}
 use Rattle.run.specs.Damage.{ChangesNothing}
-use Rattle.claims.specs.Functions.{Compiler, reported}
 use Rattle.filter.specs.Answers.{Derived}
+use Rattle.filter.specs.Functions.{Compiler, reported}
 
 -- judging a record of a message with the program of a reading
 pub record OnMessage (r : Reading) (m : Message) (lines : List ℕ) (j : Judging) : Type 0 where

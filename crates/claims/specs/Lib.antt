@@ -1,6 +1,5 @@
 -- What is claimed: the demands and the walk, said of any functions, and ours.
 pub mod Functions
-pub mod Ours
 pub mod Walk
 pub mod DemandOne
 pub mod DemandTwo

@@ -7,7 +7,8 @@ use lib.ListN.{length}
 use Rattle.walk.specs.declared.Step.the-variants.{Record}
 use Rattle.judge.specs.declared.Tally.{Tally}
 use Rattle.judge.specs.Functions.{Judge}
-use Rattle.claims.specs.Functions.{Compiler, reported, Walker}
+use Rattle.filter.specs.Functions.{Compiler, reported}
+use Rattle.claims.specs.Functions.{Walker}
 
 -- a compiler that refuses all
 abbrev pub RefusesAll : Compiler → Type 0
@@ -25,18 +26,18 @@ AlwaysKeeps judge = (program bytes lines : List ℕ) (counting : Option Tally) �
 abbrev pub WritesNothing : Judge → Type 0
 WritesNothing judge = (program bytes lines : List ℕ) (counting : Option Tally) → judge program bytes lines counting .lines ≡ lines
 
--- one whose step count is made up: the same for all
-abbrev pub StepsMadeUp : ℕ → Judge → Type 0
-StepsMadeUp count judge = (program bytes lines : List ℕ) (counting : Option Tally) → judge program bytes lines counting .steps ≡ count
+-- one whose step count is made up: any function of the program, the line buffer and the tally, whatever the record
+abbrev pub StepsMadeUp : (List ℕ → List ℕ → Option Tally → ℕ) → Judge → Type 0
+StepsMadeUp count judge = (program bytes lines : List ℕ) (counting : Option Tally) → judge program bytes lines counting .steps ≡ count program lines counting
 
 -- one that counts nothing
 abbrev pub CountsNothing : Judge → Type 0
 CountsNothing judge = (program bytes lines : List ℕ) (counting : Option Tally) → judge program bytes lines counting .tally ≡ counting
 
--- a walk that reads all at its first step, and then repeats itself
+-- a walk that reads all at its first step, whatever it does then
 abbrev pub ReadsAll : Walker → Type 0
-ReadsAll walker = (bytes : List ℕ) (at : ℕ) → walker bytes at .0 ≡ Record 0 (length bytes)
+ReadsAll walker = (bytes : List ℕ) → walker bytes 0 .0 ≡ Record 0 (length bytes)
 
--- one that never moves from its place
+-- one that doesn't move from its first place
 abbrev pub NeverMoves : Walker → Type 0
-NeverMoves walker = (bytes : List ℕ) (at : ℕ) → walker bytes at .1 ≡ at
+NeverMoves walker = (bytes : List ℕ) → walker bytes 0 .1 ≡ 0

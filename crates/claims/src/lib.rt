@@ -1,6 +1,5 @@
-// The demands as claims, and functions that meet the third at their arguments.
+// The demands as claims, and a function that meets the third at its arguments.
 ghost use mathlib.Core.Path.{_≡_};
-ghost use mathlib.Core.Option.{some};
 ghost use Rattle.judge.specs.Functions.{judgingOf, ourJudge};
 ghost use Rattle.claims.specs.Answered.{countingOf, Claimed};
 use filter::Compiled;
@@ -26,12 +25,6 @@ pub enum Answer {
 pub struct Answered {
     pub answer: Answer,
     pub counting: Counting,
-}
-
-// An answer, and the tally after it, where there is one.
-pub struct Tallied {
-    pub answer: Answer,
-    pub tally: Tally,
 }
 
 // What judging answers, and the tally after it.
@@ -93,41 +86,4 @@ pub fn compile_and_judge(
             counting,
         },
     }
-}
-
-// The same with a tally, which comes back.
-pub fn compile_and_judge_with(
-    text: &[u8],
-    program: &mut [u8],
-    bytes: &[u8],
-    lines: &mut [u8],
-    tally: Tally,
-) -> Tallied
-    ensures { λ r. ⌜ Claimed (now (text .entry)) (now (program .entry)) (now (bytes .entry)) (now (lines .entry)) (some tally) (r .answer) (now (program .exit)) (now (lines .exit)) (some (r .tally)) ⌝ }
-{
-    let answered = compile_and_judge(text, program, bytes, lines, Counting::With(tally));
-    let answer = answered.answer;
-    let counting = answered.counting;
-    match counting {
-        Counting::With(after) => Tallied {
-            answer,
-            tally: after,
-        },
-        Counting::Without => Tallied { answer, tally },
-    }
-}
-
-// The same with a tally that is lent.
-pub fn compile_and_judge_counted(
-    text: &[u8],
-    program: &mut [u8],
-    bytes: &[u8],
-    lines: &mut [u8],
-    tally: &mut Tally,
-) -> Answer
-    ensures { λ r. ⌜ Claimed (now (text .entry)) (now (program .entry)) (now (bytes .entry)) (now (lines .entry)) (some (now (tally .entry))) r (now (program .exit)) (now (lines .exit)) (some (now (tally .exit))) ⌝ }
-{
-    let tallied = compile_and_judge_with(text, program, bytes, lines, *tally);
-    *tally = tallied.tally;
-    tallied.answer
 }

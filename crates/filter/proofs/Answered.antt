@@ -12,20 +12,23 @@ use Rattle.program.specs.Records.{weightLimit}
 use Rattle.program.specs.Layout.{recordSize}
 use Rattle.token.specs.Texts.{textLimit, Forbidden}
 use Rattle.filter.specs.Levels.{levelLimit}
-use Rattle.token.specs.Tokens.{Placed, Lexes}
+use Rattle.token.specs.Tokens.{Token, Placed, Lexes}
 use Rattle.token.specs.Lexer.{Lexed, tokens, unclosed}
 use Rattle.token.specs.Lexer as lexer
 use Rattle.token.specs.Next.{allowedFront}
 use Rattle.token.proofs.AllowedBytes.{forbidden-once, forbidden-none, front-most, allowed-front, front-forbidden}
-use Rattle.token.proofs.Lexing.{read-tokens, read-unclosed, lexes-once}
-use Rattle.filter.specs.Answers.{bare, Fine, DerivedWithin, Outcome, refused, Answers}
+use Rattle.token.proofs.Lexing.{read-tokens, read-unclosed}
+use Rattle.filter.specs.Answers.{Has, bare, Fine, Reaches, DerivedWithin, Outcome, refused, Answers}
 use Rattle.filter.specs.Answers as words
-use Rattle.filter.specs.Reader.{Answer, read}
+use Rattle.filter.specs.Reader.{Why, Answer, read}
 use Rattle.filter.specs.Reader as reader
-use Rattle.filter.specs.Answering.{fitted, judged, lexed, answer}
+use Rattle.filter.specs.Answering.{refusalOf, fitted, judged, lexed, answer}
+use Rattle.filter.specs.declared.Refusal.{Refusal}
 use Rattle.filter.proofs.Sound.{sound}
+use Rattle.filter.proofs.Complete.{complete}
+use Rattle.filter.proofs.Refusals.{has-why, bad-end, only}
 use Rattle.filter.proofs.Refusals as refusals
-use Rattle.filter.proofs.Places.{refused-answers, read-derived, Refused, answers-refused, derived-read}
+use Rattle.filter.proofs.Places.{place-end, refused-answers, read-derived, tokensOf, reader-stops, place-reached}
 
 -- ---- the words give the computed answer
 
@@ -80,16 +83,15 @@ module _ (text : List ℕ) (room : ℕ) where
 
   -- a text that is derived
   derived-answer : {r : Reading} → Fine text → DerivedWithin text r → answer text room ≡ fitted room r
-  derived-answer f d =
-      let x = d .derived in
-      tokens-answer (x .tokens) f (x .lexed) (derived-read text room (x .tokens) (λ qs l. lexes-once l (x .lexed)) d)
+  derived-answer f d = let x = d .derived in tokens-answer (x .tokens) f (x .lexed) (complete levelLimit (x .reads) (d .within))
 
-  -- 4 to 6
-  refused-answer : {n p : ℕ} (ps : List Placed) → Fine text → Lexes 0 text ps → 4 ≤ n → n ≤ 6 → Answers text room (refused n p) → answer text room ≡ refused n p
-  refused-answer {n} {p} ps f l i j w = by-reader (answers-refused text room ps (λ qs k. lexes-once k l) i j w)
+  -- 4 to 6, for a token
+  token-answer : {ts : List Token} {t : Token} {k : Refusal} {p : ℕ} → Fine text → Reaches text ts t p → Has levelLimit ts t k
+      → answer text room ≡ refused k p
+  token-answer {k = k} {p} f x h = by-why (has-why h)
     where
-      by-reader : Refused (length text) ps n p → answer text room ≡ refused n p
-      by-reader x = tokens-answer ps f l (x .answer) ∙ rw (x .numbered, x .there)
+      by-why : (w : Why) × (refusalOf w ≡ k) → answer text room ≡ refused k p
+      by-why (w, e) = tokens-answer (tokensOf x) f (x .lexed) (reader-stops x w (rw e h)) ∙ rw (e, place-reached x)
 
   -- a forbidden byte that is the first is found
   first-forbidden : {p : ℕ} → Forbidden text p → allowedFront text ≡ p
@@ -105,8 +107,8 @@ module _ (text : List ℕ) (room : ℕ) where
   only-answer (words.too-long h) = rw (lt-ltb textLimit (length text) h)
   only-answer (words.forbidden {p} h x) = rw (le-ltb textLimit (length text) h, first-forbidden x, lt-ltb p (length text) (x .within))
   only-answer (words.unclosed {p} f u) = fine-answer f ∙ ap (lexed (length text) room) (read-unclosed text p .1 u)
-  only-answer (words.bad-first f x h) = refused-answer _ f (x .lexed) (refusals.has-numbered h .0) (refusals.has-numbered h .1) (words.bad-first f x h)
-  only-answer (words.bad-end ts f l w n) = refused-answer ts f l (omega arith) (omega arith) (words.bad-end ts f l w n)
+  only-answer (words.bad-first f x h) = token-answer f x h
+  only-answer (words.bad-end ts f l w n) = tokens-answer ts f l (only levelLimit (bad-end w n)) ∙ rw (place-end (length text) ts)
   only-answer (words.too-heavy {r} f d h) = derived-answer f d ∙ rw (lt-ltb weightLimit (weight r) h)
   only-answer (words.no-room {r} f d h k) = derived-answer f d ∙ rw (le-ltb weightLimit (weight r) h, lt-ltb room (recordSize * weight r) k)
   only-answer (words.compiles {r} f d h k) = derived-answer f d ∙ rw (le-ltb weightLimit (weight r) h, le-ltb room (recordSize * weight r) k)

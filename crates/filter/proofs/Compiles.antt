@@ -29,10 +29,11 @@ use Rattle.token.proofs.Kind as kinds
 use Rattle.token.proofs.Lexing.{read-unclosed}
 use Rattle.token.proofs.Nexts.{closed-lexed, unclosed-closed, unclosed-found, unclosed-most}
 use Rattle.filter.specs.Grammar.{expression}
-use Rattle.filter.specs.Answers.{bare, Outcome, compiled, refused}
+use Rattle.filter.specs.Answers.{bare, compiled, refused}
 use Rattle.filter.specs.Reader.{whole, depth, State, have, bad, Answer, ok, leave, end, conclude, finish, read}
 use Rattle.filter.specs.Reader as reader
-use Rattle.filter.specs.Answering.{numberOf, fitted, judged, lexed, answer, valueOf, saidOf, bufferOf}
+use Rattle.filter.specs.Answering.{fitted, judged, lexed, answer}
+use Rattle.filter.specs.Functions.{compilingOf, compiling, ourCompiler}
 use Rattle.filter.specs.Parsing.{from, run, begins, Stood, Ready, Read, PartSays, WholeRead, WholeStopped, Whole}
 use Rattle.filter.specs.declared.Refusal.{Refusal}
 use Rattle.filter.specs.declared.Refusal.the-variants.{Length, Byte, Quote, Token as aToken, Weight, Room}
@@ -139,24 +140,25 @@ pub put-back : (part l : List ℕ) → length part ≡ 0 → part ++ l ≡ l
 put-back [] l e = refl
 put-back (b ∷ part) l e = absurd (omega arith)
 
--- the answer is given, and the buffer is as the answer says
+-- the answer and the buffer are those of our compiler
 abbrev pub Given : List ℕ → List ℕ → Compiled → List ℕ → Type 0
-Given text old r new = (valueOf r ≡ saidOf (answer text (length old))) × (new ≡ bufferOf (answer text (length old)) old)
+Given text old r new = compilingOf r new ≡ ourCompiler text old
 
--- by the outcome
-given : (text old : List ℕ) (r : Compiled) {new : List ℕ} (o : Outcome) → answer text (length old) ≡ o → valueOf r ≡ saidOf o → new ≡ bufferOf o old → Given text old r new
-given text old r o e f g = (f ∙ sym (ap saidOf e), g ∙ sym (ap (λ o. bufferOf o old) e))
+-- a refusal leaves the buffer as it was
+given-refused : (text old : List ℕ) {k : Refusal} {place : ℕ} → answer text (length old) ≡ refused k place → Given text old (NotCompiled k place) old
+unfolding compilingOf
+given-refused text old e = sym (ap (λ o. compiling o old) e)
 
 -- 1
 pub given-long : (text old : List ℕ) → textLimit < length text → Given text old (NotCompiled Length 0) old
-unfolding answer valueOf numberOf
-given-long text old h = given text old (NotCompiled Length 0) (refused 1 0) (simp (lt-ltb _ _ h)) refl refl
+unfolding answer
+given-long text old h = given-refused text old (simp (lt-ltb _ _ h))
 
 module _ (text old : List ℕ) {byte : ℕ} (short : length text ≤ textLimit) (front : byte ≡ allowedFront text) where
   -- 2
   pub given-byte : byte < length text → Given text old (NotCompiled Byte byte) old
-  unfolding answer valueOf numberOf
-  given-byte h = rw front (given text old (NotCompiled Byte (allowedFront text)) (refused 2 (allowedFront text)) (simp (le-ltb _ _ short, lt-ltb _ _ (rw front at h))) refl refl)
+  unfolding answer
+  given-byte h = rw front (given-refused text old (simp (le-ltb _ _ short, lt-ltb _ _ (rw front at h))))
 
   module _ {quote : ℕ} (allowed : length text ≤ byte) (place : quote ≡ unclosedAt text) where
     -- what is left of the answer
@@ -166,10 +168,9 @@ module _ (text old : List ℕ) {byte : ℕ} (short : length text ≤ textLimit) 
 
     -- 3
     pub given-quote : quote < length text → Given text old (NotCompiled Quote quote) old
-    unfolding valueOf numberOf
     given-quote h =
-        rw place
-        (given text old (NotCompiled Quote (unclosedAt text)) (refused 3 (unclosedAt text)) (answer-lexed ∙ ap (lexed (length text) (length old)) (read-unclosed text (unclosedAt text) .1 (unclosed-found text .0 (rw place at h)))) refl refl)
+        let e = read-unclosed text (unclosedAt text) .1 (unclosed-found text .0 (rw place at h)) in
+        rw place (given-refused text old (answer-lexed ∙ ap (lexed (length text) (length old)) e))
 
     module _ (quotes : length text ≤ quote) where
       -- every quote is closed
@@ -183,9 +184,7 @@ module _ (text old : List ℕ) {byte : ℕ} (short : length text ≤ textLimit) 
 
       -- 4 to 6
       pub given-stopped : {k : Refusal} {place : ℕ} → WholeStopped text k place → Given text old (NotCompiled k place) old
-      unfolding valueOf
-      given-stopped {k} {place} w =
-          given text old (NotCompiled k place) (refused (numberOf k) place) (answer-judged (w .stops) ∙ rw (w .named, w .there) refl) refl refl
+      given-stopped w = given-refused text old (answer-judged (w .stops) ∙ rw (w .named, w .there))
 
       module _ {lo hi : List ℕ} {n : ℕ} (w : WholeRead text lo n hi) where
         -- and where the reader reads the text
@@ -194,14 +193,12 @@ module _ (text old : List ℕ) {byte : ℕ} (short : length text ≤ textLimit) 
 
         -- 7
         pub given-heavy : weightLimit < n → Given text old (NotCompiled Weight 0) old
-        unfolding valueOf numberOf
-        given-heavy h = given text old (NotCompiled Weight 0) (refused 7 0) (answer-fitted ∙ simp (lt-ltb _ _ (rw (w .count) at h))) refl refl
+        given-heavy h = given-refused text old (answer-fitted ∙ simp (lt-ltb _ _ (rw (w .count) at h)))
 
         module _ (light : n ≤ weightLimit) where
           -- 8
           pub given-room : length old < recordSize * n → Given text old (NotCompiled Room 0) old
-          unfolding valueOf numberOf
-          given-room h = given text old (NotCompiled Room 0) (refused 8 0) (answer-fitted ∙ simp (le-ltb _ _ (rw (w .count) at light), lt-ltb _ _ (rw (w .count) at h))) refl refl
+          given-room h = given-refused text old (answer-fitted ∙ simp (le-ltb _ _ (rw (w .count) at light), lt-ltb _ _ (rw (w .count) at h)))
 
           -- the text is read again as it was
           again : (r : Parsed) {new : List ℕ} → Whole text old r new → new ≡ sets old 0 (programOf (w .reading))
@@ -213,10 +210,9 @@ module _ (text old : List ℕ) {byte : ℕ} (short : length text ≤ textLimit) 
 
           -- the program
           pub given-program : {r : Parsed} {new : List ℕ} → recordSize * n ≤ length old → Whole text old r new → Given text old (Program (recordSize * n)) new
-          unfolding valueOf
+          unfolding compilingOf
           given-program {r} {new} h x =
               let long : length (programOf (w .reading)) ≤ length old = omega (arith, encodeAll-length (records (w .reading)), length-records (w .reading), w .count) in
-              given text old (Program (recordSize * n)) (compiled (w .reading))
-              (answer-fitted ∙ simp (le-ltb _ _ (rw (w .count) at light), le-ltb _ _ (rw (w .count) at h)))
-              (ap (λ k. (0, recordSize * k)) (w .count))
-              (again r x ∙ sets-start (programOf (w .reading)) old long)
+              let e : answer text (length old) ≡ compiled (w .reading) =
+              answer-fitted ∙ simp (le-ltb _ _ (rw (w .count) at light), le-ltb _ _ (rw (w .count) at h)) in
+              rw (e, again r x ∙ sets-start (programOf (w .reading)) old long, w .count)

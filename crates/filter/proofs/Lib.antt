@@ -12,6 +12,7 @@ pub mod Factors
 pub mod GivenPossible
 pub mod Leveled
 pub mod Located
+pub mod Numbers
 pub mod OperandTexts
 pub mod Operands
 pub mod Overlay

@@ -11,10 +11,9 @@ use Rattle.filter.specs.Grammar.{expression, Reads}
 use Rattle.filter.specs.Levels.{levelLimit, openAt}
 use Rattle.filter.specs.Answers.{Leads, Has, bare, Fine, Reaches, DerivedWithin, Answers}
 use Rattle.filter.specs.Answers as answers
-use Rattle.filter.specs.Answering.{numberOf, refusalOf, startOf, placeOf}
-use Rattle.filter.specs.Reader.{Why, bad, ok, refused, read}
-use Rattle.filter.proofs.Complete.{complete}
-use Rattle.filter.proofs.Refusals.{has-why, Judged, at-token, bad-end, only}
+use Rattle.filter.specs.Answering.{refusalOf, startOf, placeOf}
+use Rattle.filter.specs.Reader.{Why, refused, read}
+use Rattle.filter.proofs.Refusals.{Judged, at-token, bad-end, only}
 
 -- tokens of joined lists are joined
 pub bare-append : (ps qs : List Placed) → bare (ps ++ qs) ≡ bare ps ++ bare qs
@@ -86,71 +85,28 @@ reaches text e ps ts t us l q w = by-parts (parted ps ts (t ∷ us) q)
 
 module _ {text : List ℕ} {room : ℕ} (ps : List Placed) (fine : Fine text) (lexed : Lexes 0 text ps) where
   -- the same, with the tokens named
-  judged-answers : {ts us : List Token} {w : Why} → bare ps ≡ ts → Judged levelLimit ts (refused w us) → Answers text room (answers.refused (numberOf (refusalOf w)) (placeOf (length text) ps us))
-  unfolding numberOf
+  judged-answers : {ts us : List Token} {w : Why} → bare ps ≡ ts → Judged levelLimit ts (refused w us) → Answers text room (answers.refused (refusalOf w) (placeOf (length text) ps us))
   judged-answers e (at-token ts t us l h) = answers.bad-first fine (reaches text (length text) ps ts t us lexed e l) h
   judged-answers e (bad-end l f) = rw (place-end (length text) ps) (answers.bad-end ps fine lexed (rw e l) (rw e f))
 
   -- a refusal of the text's tokens is the text's answer
-  pub refused-answers : {us : List Token} {w : Why} → Judged levelLimit (bare ps) (refused w us) → Answers text room (answers.refused (numberOf (refusalOf w)) (placeOf (length text) ps us))
+  pub refused-answers : {us : List Token} {w : Why} → Judged levelLimit (bare ps) (refused w us) → Answers text room (answers.refused (refusalOf w) (placeOf (length text) ps us))
   refused-answers j = judged-answers refl j
 
 -- a reading of the text's tokens is derived for the text
 pub read-derived : {text : List ℕ} {r : Reading} (ps : List Placed) → Lexes 0 text ps → (d : Reads expression (bare ps) r) → ((n : ℕ) → openAt d n ≤ levelLimit) → DerivedWithin text r
 read-derived ps l d w = record { derived = record { tokens = ps; lexed = l; reads = d }; within = w }
 
--- the reader refuses the tokens ps, and that is this number and place; e is the end's place
-pub record Refused (e : ℕ) (ps : List Placed) (n p : ℕ) : Type 0 where
-  pub why : Why
-  pub left : List Token
-  pub answer : read levelLimit (bare ps) ≡ refused why left
-  pub numbered : numberOf (refusalOf why) ≡ n
-  pub there : placeOf e ps left ≡ p
+-- the tokens of a text that reaches one
+abbrev pub tokensOf : {text : List ℕ} {ts : List Token} {t : Token} {p : ℕ} → Reaches text ts t p → List Placed
+tokensOf {t = t} {p} x = x .front ++ (placed p t ∷ x .back)
 
-module _ (text : List ℕ) (room : ℕ) (ps : List Placed) (once : (qs : List Placed) → Lexes 0 text qs → qs ≡ ps) where
-  -- a token that the text reaches, and that has a number
-  first-refused : {ts : List Token} {t : Token} {p : ℕ} (w : Why) → Reaches text ts t p → Has levelLimit ts t (numberOf (refusalOf w))
-      → Refused (length text) ps (numberOf (refusalOf w)) p
+module _ {text : List ℕ} {ts : List Token} {t : Token} {p : ℕ} (x : Reaches text ts t p) where
+  -- where that one is refused, the reader stops at it
+  pub reader-stops : (w : Why) → Has levelLimit ts t (refusalOf w) → read levelLimit (bare (tokensOf x)) ≡ refused w (t ∷ bare (x .back))
   unfolding bare
-  first-refused {ts} {t} {p} w x j = by-tokens (once _ (x .lexed)) (x .tokens)
-    where
-      by-tokens : x .front ++ (placed p t ∷ x .back) ≡ ps → bare (x .front) ≡ ts → Refused (length text) ps (numberOf (refusalOf w)) p
-      by-tokens f g =
-          let h : bare ps ≡ ts ++ (t ∷ bare (x .back)) = rw (← f, ← g) (bare-append (x .front) (placed p t ∷ x .back)) in
-          record {
-            why = w;
-            left = t ∷ bare (x .back);
-            answer = rw h (only levelLimit (at-token ts t (bare (x .back)) (x .leads) j));
-            numbered = refl;
-            there = rw (← f) (place-token (length text) (x .front) p t (x .back));
-          }
+  reader-stops w h = rw (bare-append (x .front) (placed p t ∷ x .back), x .tokens) (only levelLimit (at-token ts t (bare (x .back)) (x .leads) h))
 
-  -- a text that is answered 4, 5 or 6 is refused so by the reader
-  pub answers-refused : {n p : ℕ} → 4 ≤ n → n ≤ 6 → Answers text room (answers.refused n p) → Refused (length text) ps n p
-  unfolding numberOf
-  answers-refused i j (answers.too-long l) = absurd (omega arith)
-  answers-refused i j (answers.forbidden l x) = absurd (omega arith)
-  answers-refused i j (answers.unclosed f u) = absurd (omega arith)
-  answers-refused {n} {p} i j (answers.bad-first f x h) = by-why (has-why h)
-    where
-      by-why : (w : Why) × (numberOf (refusalOf w) ≡ n) → Refused (length text) ps n p
-      by-why (w, e) = rw e at (first-refused w x (rw e h))
-  answers-refused i j (answers.bad-end ts f l w n) = by-end (once ts l)
-    where
-      by-end : ts ≡ ps → Refused (length text) ps 4 (length text)
-      by-end e = record {
-        why = bad;
-        left = [];
-        answer = rw (← e) (only levelLimit (bad-end w n));
-        numbered = refl;
-        there = place-end (length text) ps;
-      }
-  answers-refused i j (answers.too-heavy f d w) = absurd (omega arith)
-  answers-refused i j (answers.no-room f d w l) = absurd (omega arith)
-
-  -- a text that is derived within the limit is read so
-  pub derived-read : {r : Reading} → DerivedWithin text r → read levelLimit (bare ps) ≡ ok r
-  derived-read {r} d = by-tokens (once (d .derived .tokens) (d .derived .lexed))
-    where
-      by-tokens : d .derived .tokens ≡ ps → read levelLimit (bare ps) ≡ ok r
-      by-tokens e = rw (← e) (complete levelLimit (d .derived .reads) (d .within))
+  -- and that is its place
+  pub place-reached : placeOf (length text) (tokensOf x) (t ∷ bare (x .back)) ≡ p
+  place-reached = place-token (length text) (x .front) p t (x .back)

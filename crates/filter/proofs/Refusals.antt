@@ -14,7 +14,8 @@ use Rattle.token.specs.Tokens.{Token}
 use Rattle.filter.specs.Grammar.{expression, Reads}
 use Rattle.filter.specs.Levels.{openAt, Open}
 use Rattle.filter.specs.Answers.{Alive, Leads, Opener, Has, bad-token, bad-operand, too-deep}
-use Rattle.filter.specs.Answering.{numberOf, refusalOf}
+use Rattle.filter.specs.declared.Refusal.{Refusal}
+use Rattle.filter.specs.Answering.{refusalOf}
 use Rattle.filter.specs.Reader.{depth, State, operand, level, Why, bad, broken, deep, Move, takes, opens, stuck, breaks, Step, go, stop, came, Answer, ok, refused, admit, follow, finish, conclude, answered, start, move, step, walk, read}
 use Rattle.filter.proofs.Walks.{no-came, step-takes, step-opens, walk-go, walk-stop, walk-join, wider}
 use Rattle.filter.proofs.Complete.{derived-walks, complete}
@@ -45,14 +46,14 @@ deep-ends {L} {ts} o l = by-walk (leads-reached L ts l)
         let j : suc L ≡ level s = open-one o (opened L ts s e) in
         omega arith
 
--- tokens don't lead on with one that has a number
-pub has-ends : {L : ℕ} {ts : List Token} {t : Token} {n : ℕ} → Has L ts t n → Leads L (ts ++ (t ∷ [])) → ⊥
+-- tokens don't lead on with one that is refused
+has-ends : {L : ℕ} {ts : List Token} {t : Token} {k : Refusal} → Has L ts t k → Leads L (ts ++ (t ∷ [])) → ⊥
 has-ends (bad-token a s) l = a (leads-alive l)
 has-ends (bad-operand s f) l = broken-dead s f (leads-alive l)
 has-ends (too-deep x o) l = deep-ends o l
 
--- it has one number: so it doesn't matter in which order they are looked for
-has-once : {L : ℕ} {ts : List Token} {t : Token} {m n : ℕ} → Has L ts t m → Has L ts t n → m ≡ n
+-- it is refused in one way: so it doesn't matter in which order they are looked for
+has-once : {L : ℕ} {ts : List Token} {t : Token} {k m : Refusal} → Has L ts t k → Has L ts t m → k ≡ m
 has-once (bad-token a s) (bad-token b r) = refl
 has-once (bad-token a s) (bad-operand r f) = absurd (s r)
 has-once (bad-token a s) (too-deep x o) = absurd (a (open-alive o))
@@ -63,30 +64,22 @@ has-once (too-deep x o) (bad-token b r) = absurd (b (open-alive o))
 has-once (too-deep x o) (bad-operand r g) = absurd (broken-dead r g (open-alive o))
 has-once (too-deep x o) (too-deep y p) = refl
 
--- one of three
-pub has-numbered : {L : ℕ} {ts : List Token} {t : Token} {n : ℕ} → Has L ts t n → (4 ≤ n) × (n ≤ 6)
-has-numbered (bad-token a s) = (omega arith, omega arith)
-has-numbered (bad-operand s f) = (omega arith, omega arith)
-has-numbered (too-deep x o) = (omega arith, omega arith)
-
 -- the reader's reason for it
-pub has-why : {L : ℕ} {ts : List Token} {t : Token} {n : ℕ} → Has L ts t n → (w : Why) × (numberOf (refusalOf w) ≡ n)
-unfolding numberOf
+pub has-why : {L : ℕ} {ts : List Token} {t : Token} {k : Refusal} → Has L ts t k → (w : Why) × (refusalOf w ≡ k)
 has-why (bad-token a s) = (bad, refl)
 has-why (bad-operand s f) = (broken, refl)
 has-why (too-deep x o) = (deep, refl)
 
 -- and its only one
-why-once : (v w : Why) → numberOf (refusalOf v) ≡ numberOf (refusalOf w) → v ≡ w
-unfolding numberOf
+why-once : (v w : Why) → refusalOf v ≡ refusalOf w → v ≡ w
 why-once bad bad e = refl
-why-once bad broken e = absurd (omega arith)
-why-once bad deep e = absurd (omega arith)
-why-once broken bad e = absurd (omega arith)
+why-once bad broken e = cc
+why-once bad deep e = cc
+why-once broken bad e = cc
 why-once broken broken e = refl
-why-once broken deep e = absurd (omega arith)
-why-once deep bad e = absurd (omega arith)
-why-once deep broken e = absurd (omega arith)
+why-once broken deep e = cc
+why-once deep bad e = cc
+why-once deep broken e = cc
 why-once deep deep e = refl
 
 module _ (L : ℕ) (ts : List Token) (s : State) (came-to : walk L start ts ≡ came s) where
@@ -101,11 +94,11 @@ module _ (L : ℕ) (ts : List Token) (s : State) (came-to : walk L start ts ≡ 
 -- what a step says of the tokens up to there
 abbrev Stepped : ℕ → List Token → Token → Step → Type 0
 Stepped L ts t (go s) = walk L start (ts ++ (t ∷ [])) ≡ came s
-Stepped L ts t (stop w) = Has L ts t (numberOf (refusalOf w))
+Stepped L ts t (stop w) = Has L ts t (refusalOf w)
 
 -- every step says so
 stepped : (L : ℕ) (ts : List Token) (s : State) (t : Token) → walk L start ts ≡ came s → Stepped L ts t (step L s t)
-unfolding step admit walk level depth numberOf
+unfolding step admit walk level depth
 stepped L ts s t e = by-move (move s t) refl (move-at ts s t (walk-at L ts s e)) (move-level s t) (ltb (level s) L) refl
   where
     came-on : (M : ℕ) (x : State) → L ≤ M → step M s t ≡ go x → walk M start (ts ++ (t ∷ [])) ≡ came x
@@ -129,14 +122,14 @@ stepped L ts s t e = by-move (move s t) refl (move-at ts s t (walk-at L ts s e))
 pub deep-opener : {L : ℕ} {ts : List Token} {t : Token} → Leads L ts → Open (ts ++ (t ∷ [])) (suc L) → Opener t
 deep-opener {L} {ts} {t} l o = by-walk (leads-reached L ts l)
   where
-    by-number : {n : ℕ} → Has L ts t n → Opener t
-    by-number (bad-token a s) = absurd (a (open-alive o))
-    by-number (bad-operand s f) = absurd (broken-dead s f (open-alive o))
-    by-number (too-deep x p) = x
+    by-refusal : {k : Refusal} → Has L ts t k → Opener t
+    by-refusal (bad-token a s) = absurd (a (open-alive o))
+    by-refusal (bad-operand s f) = absurd (broken-dead s f (open-alive o))
+    by-refusal (too-deep x p) = x
 
     by-step : (x : Step) → Stepped L ts t x → Opener t
     by-step (go s) w = absurd (deep-ends o (leads L _ s w))
-    by-step (stop w) h = by-number h
+    by-step (stop w) h = by-refusal h
 
     by-walk : (s : State) × (walk L start ts ≡ came s) → Opener t
     by-walk (s, e) = by-step (step L s t) (stepped L ts s t e)
@@ -146,7 +139,7 @@ deep-opener {L} {ts} {t} l o = by-walk (leads-reached L ts l)
 -- what the words say of an answer: for the tokens ts, with at most L levels open at once
 pub data Judged (L : ℕ) : List Token → Answer → Type 0 where
   reads : {ts : List Token} {r : Reading} (d : Reads expression ts r) → ((n : ℕ) → openAt d n ≤ L) → Judged L ts (ok r)
-  at-token : (ts : List Token) (t : Token) (us : List Token) {w : Why} → Leads L ts → Has L ts t (numberOf (refusalOf w)) → Judged L (ts ++ (t ∷ us)) (refused w (t ∷ us))
+  at-token : (ts : List Token) (t : Token) (us : List Token) {w : Why} → Leads L ts → Has L ts t (refusalOf w) → Judged L (ts ++ (t ∷ us)) (refused w (t ∷ us))
   bad-end : {ts : List Token} → Leads L ts → ((r : Reading) → Reads expression ts r → ⊥) → Judged L ts (refused bad [])
 
 -- the end, and the rest of the tokens, by the state
@@ -211,14 +204,14 @@ only L (bad-end {ts} l none-of) = by-walk (leads-reached L ts l)
 
 -- ---- what leads on
 
--- tokens lead on exactly when none of them has a number
-pub leads-exactly : (L : ℕ) (ts : List Token) → Leads L ts ↔ ((xs ys : List Token) (u : Token) (n : ℕ) → ts ≡ xs ++ (u ∷ ys) → Has L xs u n → ⊥)
+-- tokens lead on exactly when none of them is refused
+pub leads-exactly : (L : ℕ) (ts : List Token) → Leads L ts ↔ ((xs ys : List Token) (u : Token) (k : Refusal) → ts ≡ xs ++ (u ∷ ys) → Has L xs u k → ⊥)
 leads-exactly L ts = (forth, back (judged L ts))
   where
-    forth : Leads L ts → (xs ys : List Token) (u : Token) (n : ℕ) → ts ≡ xs ++ (u ∷ ys) → Has L xs u n → ⊥
-    forth l xs ys u n e h = has-ends h (earlier (xs ++ (u ∷ [])) ys (rw (append-assoc xs (u ∷ []) ys, ← e) l))
+    forth : Leads L ts → (xs ys : List Token) (u : Token) (k : Refusal) → ts ≡ xs ++ (u ∷ ys) → Has L xs u k → ⊥
+    forth l xs ys u k e h = has-ends h (earlier (xs ++ (u ∷ [])) ys (rw (append-assoc xs (u ∷ []) ys, ← e) l))
 
-    back : {us : List Token} {a : Answer} → Judged L us a → ((xs ys : List Token) (u : Token) (n : ℕ) → us ≡ xs ++ (u ∷ ys) → Has L xs u n → ⊥) → Leads L us
+    back : {us : List Token} {a : Answer} → Judged L us a → ((xs ys : List Token) (u : Token) (k : Refusal) → us ≡ xs ++ (u ∷ ys) → Has L xs u k → ⊥) → Leads L us
     back (reads {ts = us} {r} d w) f = by-end (rw (append-nil us) (d, w))
       where
         by-end : (e : Reads expression (us ++ []) r) × ((n : ℕ) → openAt e n ≤ L) → Leads L us

@@ -1,13 +1,12 @@
 -- The answer for a text and a program buffer, as the code computes it.
 use Prim.Native.Nat.{ℕ, _-_, _*_}
-use mathlib.Core.List.{List, [], _∷_, _++_}
+use mathlib.Core.List.{List, [], _∷_}
 use lib.ListN.{length, drop}
 use lib.Dec.{ltb}
 use Rattle.octets.specs.Choice.{pick}
 use Rattle.program.specs.Readings.{Reading, weight}
 use Rattle.program.specs.Records.{weightLimit}
 use Rattle.program.specs.Layout.{recordSize}
-use Rattle.program.specs.Compiling.{programOf}
 use Rattle.token.specs.Texts.{textLimit}
 use Rattle.filter.specs.Levels.{levelLimit}
 use Rattle.token.specs.Tokens.{Token, Placed}
@@ -19,19 +18,6 @@ use Rattle.filter.specs.Reader.{Why, bad, broken, deep, Answer, read}
 use Rattle.filter.specs.Reader as reader
 use Rattle.filter.specs.declared.Refusal.{Refusal}
 use Rattle.filter.specs.declared.Refusal.the-variants.{Length, Byte, Quote, Token as aToken, Operand, Level, Weight, Room}
-use Rattle.filter.specs.declared.Compiled.{Compiled}
-use Rattle.filter.specs.declared.Compiled.the-variants.{Program, Refused}
-
--- the paper's numbers
-unfoldable pub numberOf : Refusal → ℕ
-numberOf Length = 1
-numberOf Byte = 2
-numberOf Quote = 3
-numberOf aToken = 4
-numberOf Operand = 5
-numberOf Level = 6
-numberOf Weight = 7
-numberOf Room = 8
 
 -- the reader's refusals among them
 abbrev pub refusalOf : Why → Refusal
@@ -50,36 +36,20 @@ placeOf end ps ts = startOf end (drop (length ps - length ts) ps)
 
 -- 7 and 8, for a reading
 abbrev pub fitted : ℕ → Reading → Outcome
-fitted room r = pick (ltb weightLimit (weight r)) (refused 7 0) (pick (ltb room (recordSize * weight r)) (refused 8 0) (compiled r))
+fitted room r = pick (ltb weightLimit (weight r)) (refused Weight 0) (pick (ltb room (recordSize * weight r)) (refused Room 0) (compiled r))
 
 -- 4 to 6, for tokens in a text that ends at a place
 abbrev pub judged : ℕ → List Placed → ℕ → Answer → Outcome
 judged end ps room (reader.ok r) = fitted room r
-judged end ps room (reader.refused why left) = refused (numberOf (refusalOf why)) (placeOf end ps left)
+judged end ps room (reader.refused why left) = refused (refusalOf why) (placeOf end ps left)
 
 -- 3
 abbrev pub lexed : ℕ → ℕ → Lexed → Outcome
 lexed end room (tokens ps) = judged end ps room (read levelLimit (bare ps))
-lexed end room (unclosed p) = refused 3 p
+lexed end room (unclosed p) = refused Quote p
 
 -- the answer for a text and a program buffer of so many bytes
 unfoldable pub answer : List ℕ → ℕ → Outcome
 answer text room =
-    pick (ltb textLimit (length text)) (refused 1 0)
-    (pick (ltb (allowedFront text) (length text)) (refused 2 (allowedFront text)) (lexed (length text) room (lexer.read text)))
-
--- ---- as numbers and as a buffer
-
--- 0 and the program's bytes, or a refusal's number and its place
-unfoldable pub valueOf : Compiled → ℕ × ℕ
-valueOf (Program bytes) = (0, bytes)
-valueOf (Refused why place) = (numberOf why, place)
-
-abbrev pub saidOf : Outcome → ℕ × ℕ
-saidOf (compiled r) = (0, recordSize * weight r)
-saidOf (refused n place) = (n, place)
-
--- the program buffer afterwards: the records over its start, or as it was
-abbrev pub bufferOf : Outcome → List ℕ → List ℕ
-bufferOf (compiled r) old = programOf r ++ drop (length (programOf r)) old
-bufferOf (refused n place) old = old
+    pick (ltb textLimit (length text)) (refused Length 0)
+    (pick (ltb (allowedFront text) (length text)) (refused Byte (allowedFront text)) (lexed (length text) room (lexer.read text)))

@@ -12,8 +12,21 @@ use Rattle.token.specs.Tokens.{Word, Token, open′, bang, word, Placed, placed
 use Rattle.filter.specs.Words.{name, Says}
 use Rattle.filter.specs.Grammar.{Operand, expression, Reads}
 use Rattle.filter.specs.Levels.{levelLimit, openAt, Open}
+use Rattle.filter.specs.declared.Refusal.{Refusal}
+use Rattle.filter.specs.declared.Refusal.the-variants.{Length, Byte, Quote, Token as BadToken, Operand as BadOperand, Level, Weight, Room}
 use Rattle.operand.specs.declared.Name.{Name}
 use Rattle.operand.specs.Tests.{StandsFor}
+
+-- the paper's numbers
+unfoldable pub numberOf : Refusal → ℕ
+numberOf Length = 1
+numberOf Byte = 2
+numberOf Quote = 3
+numberOf BadToken = 4
+numberOf BadOperand = 5
+numberOf Level = 6
+numberOf Weight = 7
+numberOf Room = 8
 
 -- some continuation of these tokens is derived: tokens of any number may follow
 pub record Alive (ts : List Token) : Type 0 where
@@ -44,14 +57,14 @@ pub data Opener : Token → Type 0 where
   a-group : Opener open′
   a-bang : Opener bang
 
--- a token after these has a number, where at most that many levels may be open
-pub data Has (limit : ℕ) (ts : List Token) (t : Token) : ℕ → Type 0 where
+-- a token after these is refused so, where at most that many levels may be open
+pub data Has (limit : ℕ) (ts : List Token) (t : Token) : Refusal → Type 0 where
   -- 4: no continuation allows it, and it is no operand
-  bad-token : (Alive (ts ++ (t ∷ [])) → ⊥) → (Stands ts t → ⊥) → Has limit ts t 4
+  bad-token : (Alive (ts ++ (t ∷ [])) → ⊥) → (Stands ts t → ⊥) → Has limit ts t BadToken
   -- 5: operand breaks its test's rule
-  bad-operand : (s : Stands ts t) → ((x : Test) → StandsFor (s .test) (s .bytes) x → ⊥) → Has limit ts t 5
+  bad-operand : (s : Stands ts t) → ((x : Test) → StandsFor (s .test) (s .bytes) x → ⊥) → Has limit ts t BadOperand
   -- 6: `(` or `!` opening a level too many
-  too-deep : Opener t → Open (ts ++ (t ∷ [])) (suc limit) → Has limit ts t 6
+  too-deep : Opener t → Open (ts ++ (t ∷ [])) (suc limit) → Has limit ts t Level
 
 -- tokens without their places
 unfoldable pub bare : List Placed → List Token
@@ -85,24 +98,25 @@ pub record DerivedWithin (text : List ℕ) (r : Reading) : Type 0 where
 -- a text compiles to the program of a reading, or is refused
 pub data Outcome : Type 0 where
   compiled : Reading → Outcome
-  -- a number and a place
-  refused : ℕ → ℕ → Outcome
+  -- why, and the place
+  refused : Refusal → ℕ → Outcome
 
 -- the answer for a text and a program buffer of so many bytes
 pub data Answers (text : List ℕ) (room : ℕ) : Outcome → Type 0 where
   -- 1: text over 4,096 bytes
-  too-long : textLimit < length text → Answers text room (refused 1 0)
+  too-long : textLimit < length text → Answers text room (refused Length 0)
   -- 2: a forbidden byte, at the first one's place
-  forbidden : {p : ℕ} → length text ≤ textLimit → Forbidden text p → Answers text room (refused 2 p)
+  forbidden : {p : ℕ} → length text ≤ textLimit → Forbidden text p → Answers text room (refused Byte p)
   -- 3: quote not closed, at its opening
-  unclosed : {p : ℕ} → Fine text → Unclosed text p → Answers text room (refused 3 p)
+  unclosed : {p : ℕ} → Fine text → Unclosed text p → Answers text room (refused Quote p)
   -- 4, 5 and 6: for the first token that has one
-  bad-first : {ts : List Token} {t : Token} {n p : ℕ} → Fine text → Reaches text ts t p → Has levelLimit ts t n → Answers text room (refused n p)
+  bad-first : {ts : List Token} {t : Token} {why : Refusal} {p : ℕ} → Fine text → Reaches text ts t p → Has levelLimit ts t why
+      → Answers text room (refused why p)
   -- 4: the end of the text
   bad-end : (ts : List Placed) → Fine text → Lexes 0 text ts → Leads levelLimit (bare ts) → ((r : Reading) → Reads expression (bare ts) r → ⊥)
-      → Answers text room (refused 4 (length text))
+      → Answers text room (refused BadToken (length text))
   -- 7: weight over 512
-  too-heavy : {r : Reading} → Fine text → DerivedWithin text r → weightLimit < weight r → Answers text room (refused 7 0)
+  too-heavy : {r : Reading} → Fine text → DerivedWithin text r → weightLimit < weight r → Answers text room (refused Weight 0)
   -- 8: program buffer under 16 x weight bytes
-  no-room : {r : Reading} → Fine text → DerivedWithin text r → weight r ≤ weightLimit → room < recordSize * weight r → Answers text room (refused 8 0)
+  no-room : {r : Reading} → Fine text → DerivedWithin text r → weight r ≤ weightLimit → room < recordSize * weight r → Answers text room (refused Room 0)
   compiles : {r : Reading} → Fine text → DerivedWithin text r → weight r ≤ weightLimit → recordSize * weight r ≤ room → Answers text room (compiled r)

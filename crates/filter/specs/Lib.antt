@@ -7,4 +7,5 @@ pub mod Given
 pub mod Refused
 pub mod Reader
 pub mod Answering
+pub mod Functions
 pub mod Parsing

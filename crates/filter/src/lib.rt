@@ -7,7 +7,8 @@ ghost use lib.ListN.{length};
 ghost use Rattle.token.specs.Next.{Closed, tokenIn};
 ghost use Rattle.filter.specs.Words.{roleOf, name as a-name};
 ghost use Rattle.filter.specs.Grammar.{expression as an-expression, conjunction as a-conjunction, factor as a-factor};
-ghost use Rattle.filter.specs.Answering.{numberOf, answer, valueOf, saidOf, bufferOf};
+ghost use Rattle.filter.specs.Answers.{numberOf};
+ghost use Rattle.filter.specs.Functions.{compilingOf, ourCompiler};
 ghost use Rattle.program.specs.Layout.{fields};
 ghost use Rattle.filter.specs.Parsing.{roleSaid, operandRows, roleIn, operandKind, opensLevel, Ready, PartSays, TestSays, Whole};
 ghost use Rattle.names.specs.Tables.{found};
@@ -343,8 +344,7 @@ fn parse(text: &[u8], out: &mut [u8]) -> Parsed
 
 // Compiles a text: its program over the start of a buffer and the program's bytes, or a refusal and the buffer as it was.
 pub fn compile(text: &[u8], program: &mut [u8]) -> Compiled
-    ensures { λ r. ⌜ valueOf r ≡ saidOf (answer (now (text .entry)) (length (now (program .entry)))) ⌝ }
-    ensures { λ r. ⌜ now (program .exit) ≡ bufferOf (answer (now (text .entry)) (length (now (program .entry)))) (now (program .entry)) ⌝ }
+    ensures { λ r. ⌜ compilingOf r (now (program .exit)) ≡ ourCompiler (now (text .entry)) (now (program .entry)) ⌝ }
 {
     if 4096 < text.len() {
         return Compiled::Refused(Refusal::Length, 0);

@@ -1,2 +1,3 @@
--- What the program writes for a bad filter.
+-- What the program writes: the refusal of a filter, or the lines of a run.
 pub mod Refusal
+pub mod Output

@@ -1,9 +1,10 @@
 // Filters MRT records: `grainlantern FILTERFILE < RECORDS` writes the lines of the records that the filter keeps.
 ghost use mathlib.Core.Path.{_≡_};
 ghost use Prim.Native.Nat.{_≤_};
-ghost use lib.ListN.{length, take};
+ghost use lib.ListN.{length};
 ghost use Rattle.octets.specs.Writes.{Written};
-ghost use Rattle.grainlantern.specs.Refusal.{refusalText};
+ghost use Rattle.grainlantern.specs.Refusal.{refusalText, RefusedAt};
+ghost use Rattle.grainlantern.specs.Output.{Lent, keptLines, OfRun};
 use filter::Compiled;
 use judge::Judged;
 use judge::Tally;
@@ -57,39 +58,60 @@ fn put_bytes(out: &mut [u8], at: usize, bytes: &[u8]) -> usize
     place
 }
 
-// Writes why a filter isn't compiled, and where, over the start of a buffer, and answers the bytes.
-fn put_refusal(out: &mut [u8], number: u32, place: u32) -> usize
+// The text of a refusal, written over the start of a buffer.
+fn refusal_text<'a>(out: &'a mut [u8], number: u32, place: u32) -> &'a [u8]
     requires { ⌜ 33 ≤ length (now out) ⌝ }
-    ensures { λ r. ⌜ take r (now (out .exit)) ≡ refusalText number place ⌝ }
+    ensures { λ r. ⌜ now r ≡ refusalText number place ⌝ }
 {
     let at = put_bytes(out, 0, b"refused ");
     let at = octets::put_decimal(out, at, number);
     let at = put_bytes(out, at, b" at ");
     let at = octets::put_decimal(out, at, place);
-    octets::put(out, at, b'\n')
+    let end = octets::put(out, at, b'\n');
+    let whole = &out[..];
+    octets::part(whole, 0, end)
 }
 
-// Says it by one write, so that no part of it follows a torn one.
-fn refuse(number: u32, place: u32) {
+// The one writer of a refusal: by one write, so that no part of it follows a torn one.
+fn write_refusal(number: u32, place: u32, text: &[u8])
+    requires { ⌜ RefusedAt number place ⌝ }
+    requires { ⌜ now text ≡ refusalText number place ⌝ }
+{
+    io::write_all(STDOUT_FILENO, text);
+}
+
+// Says why a filter isn't compiled, and where.
+fn refuse(number: u32, place: u32)
+    requires { ⌜ RefusedAt number place ⌝ }
+{
     let mut out = [0u8; 33];
-    let length = put_refusal(&mut out, number, place);
-    io::write_all(STDOUT_FILENO, octets::part(&out, 0, length));
+    let text = refusal_text(&mut out, number, place);
+    write_refusal(number, place, text);
 }
 
-// Writes the lines of a record that is kept, and answers whether the next one may follow.
-fn write_kept(judged: Judged, lines: &[u8]) -> bool {
+// The lines to hand on for an answer: those of a record that is kept.
+fn kept_lines(judged: Judged, lines: &[u8]) -> &[u8]
+    ensures { λ r. ⌜ now r ≡ keptLines judged (now (lines .entry)) ⌝ }
+{
     match judged {
-        Judged::Kept { steps: _, bytes } => io::write_all(
-            STDOUT_FILENO,
-            octets::part(lines, 0, bytes),
-        ),
-        Judged::Dropped { steps: _ } => true,
-        Judged::Refused(_) => true,
+        Judged::Kept { steps: _, bytes } => octets::part(lines, 0, bytes),
+        Judged::Dropped { steps: _ } => octets::part(lines, 0, 0),
+        Judged::Refused(_) => octets::part(lines, 0, 0),
     }
 }
 
-// Judges the records one after another.
-fn judge_records(program: &[u8], records: &[u8], lines: &mut [u8]) {
+// The one writer of lines: it answers whether the next ones may follow. The program and the records say whose lines they are.
+fn write_lines(program: &[u8], records: &[u8], lines: &[u8]) -> bool
+    requires { ⌜ Lent (now program) ⌝ }
+    requires { ⌜ OfRun (now program) (now records) (now lines) ⌝ }
+{
+    io::write_all(STDOUT_FILENO, lines)
+}
+
+// Judges the records one after another, from the first byte on, and hands on the lines of each.
+fn judge_records(program: &[u8], records: &[u8], lines: &mut [u8])
+    requires { ⌜ Lent (now program) ⌝ }
+{
     let mut at = 0;
     let mut tally = Tally {
         seen: 0,
@@ -107,7 +129,7 @@ fn judge_records(program: &[u8], records: &[u8], lines: &mut [u8]) {
         else {
             return;
         };
-        if !write_kept(judged, lines) {
+        if !write_lines(program, records, kept_lines(judged, lines)) {
             return;
         }
         at = next;
@@ -116,7 +138,9 @@ fn judge_records(program: &[u8], records: &[u8], lines: &mut [u8]) {
 }
 
 // Filters the first 65,536 bytes of the input. As many bytes hold the lines of any record.
-fn filter_records(program: &[u8]) {
+fn filter_records(program: &[u8])
+    requires { ⌜ Lent (now program) ⌝ }
+{
     let mut records = io::large_buffer();
     let mut lines = io::large_buffer();
     let length = io::read_full(STDIN_FILENO, &mut records);
@@ -130,7 +154,11 @@ fn main() {
     let length = read_filter(&mut text);
     let compiled = filter::compile(octets::part(&text, 0, length), &mut program);
     match compiled {
-        Compiled::Refused(refusal, place) => refuse(filter::number_of(refusal), place as u32),
+        Compiled::Refused(refusal, at) => {
+            let number = filter::number_of(refusal);
+            let place = at as u32;
+            refuse(number, place);
+        }
         Compiled::Program(size) => filter_records(octets::part(&program, 0, size)),
     }
 }

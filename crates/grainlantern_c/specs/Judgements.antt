@@ -1,16 +1,10 @@
--- What `grainlantern_judge` and `grainlantern_judge_counted` answer and set.
+-- What `grainlantern_judge` and `grainlantern_judge_counted` answer, set and leave.
 use Prim.Native.Nat.{ℕ}
 use mathlib.Core.List.{List, [], _∷_}
-use Rattle.judge.specs.Answers.{Outcome}
-use Rattle.judge.specs.Judging.{saidOf}
+use mathlib.Core.Option.{Option}
+use Rattle.judge.specs.declared.Tally.{Tally}
+use Rattle.judge.specs.Functions.{Judging}
 
--- steps and the bytes of lines, and two zeros
-abbrev pub valuesOf : ℕ × ℕ × ℕ → List ℕ
-valuesOf said = said .1 ∷ said .2 ∷ 0 ∷ 0 ∷ []
-
--- 1 kept, 0 dropped, or the refusal's number
-abbrev pub judgeNumber : Outcome → ℕ
-judgeNumber outcome = saidOf outcome .0
-
-abbrev pub judgeValue : Outcome → List ℕ
-judgeValue outcome = valuesOf (saidOf outcome)
+-- what C is told of judging: the number, the four values (steps, the bytes of the lines, two zeros), the line buffer and the tally or none afterwards
+abbrev pub judgedForC : Judging → ℕ × List ℕ × List ℕ × Option Tally
+judgedForC j = (j .number, j .steps ∷ j .written ∷ 0 ∷ 0 ∷ [], j .lines, j .tally)

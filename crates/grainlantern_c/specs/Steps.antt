@@ -4,17 +4,8 @@ use mathlib.Core.List.{List, [], _∷_}
 use Rattle.walk.specs.declared.Step.{Step}
 use Rattle.walk.specs.declared.Step.the-variants.{Record, Done, Cut}
 
--- 0 a record, 1 done, 2 cut
-abbrev pub stepNumber : Step → ℕ
-stepNumber (Record start len) = 0
-stepNumber Done = 1
-stepNumber (Cut left) = 2
-
--- the record's bytes, nothing, or the bytes left
-abbrev stepBytes : Step → ℕ
-stepBytes (Record start len) = len
-stepBytes Done = 0
-stepBytes (Cut left) = left
-
-abbrev pub stepValue : Step → List ℕ
-stepValue step = stepBytes step ∷ 0 ∷ 0 ∷ 0 ∷ []
+-- what C is told of a step: 0 a record and its bytes, 1 done, 2 cut and the bytes left; and zeros
+abbrev pub stepForC : Step → ℕ × List ℕ
+stepForC (Record start len) = (0, len ∷ 0 ∷ 0 ∷ 0 ∷ [])
+stepForC Done = (1, 0 ∷ 0 ∷ 0 ∷ 0 ∷ [])
+stepForC (Cut left) = (2, left ∷ 0 ∷ 0 ∷ 0 ∷ [])

@@ -1,14 +1,14 @@
 // The interface for C: numbers for answers, their values in four places that the caller lends.
 ghost use mathlib.Core.Path.{_≡_};
-ghost use mathlib.Core.List.{[], _∷_};
-ghost use mathlib.Core.Option.{some, none};
-ghost use lib.ListN.{length};
+ghost use mathlib.Core.List.{List, [], _∷_};
+ghost use mathlib.Core.Option.{Option, some, none};
+ghost use Prim.Native.Nat.{ℕ};
 ghost use Rattle.walk.specs.Steps.{stepAt};
-ghost use Rattle.judge.specs.Answers.{linesAfter, tallyAfter};
-ghost use Rattle.judge.specs.Judging.{judgeOf, valueOf};
-ghost use Rattle.grainlantern_c.specs.Judgements.{valuesOf, judgeNumber, judgeValue};
-ghost use Rattle.grainlantern_c.specs.Programs.{compileNumber, compileValue, compileLeft};
-ghost use Rattle.grainlantern_c.specs.Steps.{stepNumber, stepValue};
+ghost use Rattle.filter.specs.Functions.{ourCompiler};
+ghost use Rattle.judge.specs.Functions.{judgingOf, ourJudge};
+ghost use Rattle.grainlantern_c.specs.Judgements.{judgedForC};
+ghost use Rattle.grainlantern_c.specs.Programs.{compiledForC};
+ghost use Rattle.grainlantern_c.specs.Steps.{stepForC};
 use filter::Compiled;
 use judge::Judged;
 use judge::Tally;
@@ -25,9 +25,7 @@ fn answer(value: &mut [u64; 4], number: u32, first: u64) -> u32
 // Compiles a filter: 0 and its program's bytes, or the refusal's number and its place.
 #[no_mangle]
 pub extern "C" fn grainlantern_compile(text: &[u8], program: &mut [u8], value: &mut [u64; 4]) -> u32
-    ensures { λ r. ⌜ r ≡ compileNumber (now (text .entry)) (now (program .entry)) ⌝ }
-    ensures { λ r. ⌜ now (value .exit) ≡ compileValue (now (text .entry)) (now (program .entry)) ⌝ }
-    ensures { λ r. ⌜ now (program .exit) ≡ compileLeft (now (text .entry)) (now (program .entry)) ⌝ }
+    ensures { λ r. ⌜ (r, now (value .exit), now (program .exit)) ≡ compiledForC (ourCompiler (now (text .entry)) (now (program .entry))) ⌝ }
 {
     let compiled = filter::compile(text, program);
     match compiled {
@@ -42,7 +40,7 @@ pub extern "C" fn grainlantern_compile(text: &[u8], program: &mut [u8], value: &
 
 // What judging answered, as a number and its values.
 fn answer_judged(value: &mut [u64; 4], judged: Judged) -> u32
-    ensures { λ r. ⌜ (r ≡ valueOf judged .0) × (now (value .exit) ≡ valuesOf (valueOf judged)) ⌝ }
+    ensures { λ r. ⌜ ((lines : List ℕ) (counting : Option Tally) → (r, now (value .exit), lines, counting) ≡ judgedForC (judgingOf judged lines counting)) ⌝ }
 {
     match judged {
         Judged::Kept { steps, bytes } => {
@@ -62,9 +60,7 @@ pub extern "C" fn grainlantern_judge(
     lines: &mut [u8],
     value: &mut [u64; 4],
 ) -> u32
-    ensures { λ r. ⌜ r ≡ judgeNumber (judgeOf (now (program .entry)) (now (bytes .entry)) (length (now (lines .entry))) none) ⌝ }
-    ensures { λ r. ⌜ now (value .exit) ≡ judgeValue (judgeOf (now (program .entry)) (now (bytes .entry)) (length (now (lines .entry))) none) ⌝ }
-    ensures { λ r. ⌜ now (lines .exit) ≡ linesAfter (judgeOf (now (program .entry)) (now (bytes .entry)) (length (now (lines .entry))) none) (now (lines .entry)) ⌝ }
+    ensures { λ r. ⌜ (r, now (value .exit), now (lines .exit), none) ≡ judgedForC (ourJudge (now (program .entry)) (now (bytes .entry)) (now (lines .entry)) none) ⌝ }
 {
     let judged = judge::judge(program, bytes, lines);
     answer_judged(value, judged)
@@ -79,10 +75,7 @@ pub extern "C" fn grainlantern_judge_counted(
     tally: &mut Tally,
     value: &mut [u64; 4],
 ) -> u32
-    ensures { λ r. ⌜ r ≡ judgeNumber (judgeOf (now (program .entry)) (now (bytes .entry)) (length (now (lines .entry))) (some (now (tally .entry)))) ⌝ }
-    ensures { λ r. ⌜ now (value .exit) ≡ judgeValue (judgeOf (now (program .entry)) (now (bytes .entry)) (length (now (lines .entry))) (some (now (tally .entry)))) ⌝ }
-    ensures { λ r. ⌜ now (lines .exit) ≡ linesAfter (judgeOf (now (program .entry)) (now (bytes .entry)) (length (now (lines .entry))) (some (now (tally .entry)))) (now (lines .entry)) ⌝ }
-    ensures { λ r. ⌜ now (tally .exit) ≡ tallyAfter (judgeOf (now (program .entry)) (now (bytes .entry)) (length (now (lines .entry))) (some (now (tally .entry)))) (now (tally .entry)) ⌝ }
+    ensures { λ r. ⌜ (r, now (value .exit), now (lines .exit), some (now (tally .exit))) ≡ judgedForC (ourJudge (now (program .entry)) (now (bytes .entry)) (now (lines .entry)) (some (now (tally .entry)))) ⌝ }
 {
     let judged = judge::judge_counted(program, bytes, lines, tally);
     answer_judged(value, judged)
@@ -91,8 +84,7 @@ pub extern "C" fn grainlantern_judge_counted(
 // What stands at a place of a run of records: 0 a record and its bytes, 1 done, 2 cut and the bytes left.
 #[no_mangle]
 pub extern "C" fn grainlantern_step(records: &[u8], at: usize, value: &mut [u64; 4]) -> u32
-    ensures { λ r. ⌜ r ≡ stepNumber (stepAt (now (records .entry)) at) ⌝ }
-    ensures { λ r. ⌜ now (value .exit) ≡ stepValue (stepAt (now (records .entry)) at) ⌝ }
+    ensures { λ r. ⌜ (r, now (value .exit)) ≡ stepForC (stepAt (now (records .entry)) at) ⌝ }
 {
     let step = walk::step_at(records, at);
     match step {

@@ -14,20 +14,20 @@ use Rattle.message.specs.declared.Refusal.{Refusal}
 use Rattle.message.specs.declared.Decoded.{Decoded}
 use Rattle.message.specs.declared.Decoded.the-variants.{Read, Refused}
 use Rattle.message.specs.Represents.{Represents}
-use Rattle.message.specs.Refusals.{RefusedWith, number}
+use Rattle.message.specs.Refusals.{RefusedWith}
 use Rattle.message.specs.Decode.{messageAt, decodeOf}
 use Rattle.message.proofs.Deciding.{Decides, decides-false, decides-not}
 use Rattle.message.proofs.RecordReads.{represents-read, read-represents}
 use Rattle.message.proofs.Refused.{refused-sound, refused-complete}
 use Rattle.line.specs.Line.{linesOf}
-use Rattle.line.specs.Answer.{shortNumber}
 use Rattle.program.specs.Machine.{machine}
 use Rattle.program.specs.Validity.{Valid, isValid}
 use Rattle.program.proofs.Valid.{valid-sound, valid-complete}
 use Rattle.truth.specs.Records.{recordTruth}
 use Rattle.judge.specs.declared.Tally.{Tally}
+use Rattle.judge.specs.declared.Refusal.the-variants.{Program, Count, Record, Lines}
 use Rattle.judge.specs.Tallies.{FullTally, isFullTally}
-use Rattle.judge.specs.Answers.{Outcome, kept, refused, declined, Answers, not-valid, full, unread, drops, short, keeps}
+use Rattle.judge.specs.Answers.{Outcome, kept, refused, Answers, not-valid, full, unread, drops, short, keeps}
 use Rattle.judge.specs.Judging.{judgedBy, decoded, judgeOf}
 use Rattle.judge.proofs.Tallies.{tally-sound, tally-complete}
 
@@ -50,18 +50,18 @@ module _ {program bytes : List ℕ} {room : ℕ} {counting : Option Tally} where
     judged-given {m} r (true, steps) e = by-room (ltb room (length (linesOf m))) refl
       where
         by-room : (b : Bool) → ltb room (length (linesOf m)) ≡ b
-            → Answers program bytes room counting (pick b (declined shortNumber) (kept steps (linesOf m)))
+            → Answers program bytes room counting (pick b (refused Lines) (kept steps (linesOf m)))
         by-room true h = short v n r e (ltb-true _ _ h)
         by-room false h = keeps v n r e (ltb-false _ _ h)
 
     -- of any record: 11 to 18 too
     decoded-given : Octets bytes → (d : Decoded) → decodeOf bytes ≡ d → Answers program bytes room counting (decoded program bytes room d)
     decoded-given o (Read p) e = judged-given (read-represents o e) (machine (recordTruth (messageAt bytes p)) program) refl
-    decoded-given o (Refused r) e = unread v n (refused-sound o e)
+    decoded-given o (Refused why) e = unread v n (refused-sound o e)
 
   -- with a valid program: 21 too
   counting-given : Octets bytes → Valid program → (b : Bool) → isFullTally counting ≡ b
-      → Answers program bytes room counting (pick b (declined 21) (decoded program bytes room (decodeOf bytes)))
+      → Answers program bytes room counting (pick b (refused Count) (decoded program bytes room (decodeOf bytes)))
   counting-given o v true e = full v (tally-sound counting e)
   counting-given o v false e = decoded-given v (decides-false (full-decides counting) e) o (decodeOf bytes) refl
 
@@ -72,7 +72,7 @@ module _ {program bytes : List ℕ} {room : ℕ} {counting : Option Tally} where
     where
       by-program : (b : Bool) → isValid program ≡ b
           → Answers program bytes room counting
-          (pick b (pick (isFullTally counting) (declined 21) (decoded program bytes room (decodeOf bytes))) (declined 20))
+          (pick b (pick (isFullTally counting) (refused Count) (decoded program bytes room (decodeOf bytes))) (refused Program))
       by-program true e = counting-given o (valid-sound program p e) (isFullTally counting) refl
       by-program false e = not-valid (decides-false (valid-decides p) e)
 
@@ -80,7 +80,7 @@ module _ {program bytes : List ℕ} {room : ℕ} {counting : Option Tally} where
 
 -- with a valid program, a full tally is 21
 full-judged : {program : List ℕ} {counting : Option Tally} → Valid program → FullTally counting → (bytes : List ℕ) (room : ℕ)
-    → judgeOf program bytes room counting ≡ declined 21
+    → judgeOf program bytes room counting ≡ refused Count
 unfolding judgeOf
 full-judged v f bytes room = rw (valid-complete v, tally-complete f)
 
@@ -91,8 +91,8 @@ module _ {program : List ℕ} {counting : Option Tally} (v : Valid program) (n :
   record-judged bytes room = rw (valid-complete v, decides-not (full-decides counting) n)
 
   -- its refusal goes out
-  pub refused-judged : {bytes : List ℕ} {r : Refusal} → Octets bytes → RefusedWith bytes r → (room : ℕ)
-      → judgeOf program bytes room counting ≡ refused (number r)
+  pub refused-judged : {bytes : List ℕ} {why : Refusal} → Octets bytes → RefusedWith bytes why → (room : ℕ)
+      → judgeOf program bytes room counting ≡ refused (Record why)
   refused-judged {bytes} b x room = record-judged bytes room ∙ ap (decoded program bytes room) (refused-complete b x)
 
   -- and a message that it represents is judged by what the machine finds

@@ -1,23 +1,22 @@
 -- Laws of answers: that they stand for their outcomes, and that a tally that isn't full has room in each count. Assumes nothing.
 use Prim.Native.Nat.{ℕ, _*_, _≤_}
-use native.Mathlib.Nat.{lt-of-not-le}
-use native.Mathlib.Decide.{decLe}
-use native.Mathlib.Omega.{arith}
-use mathlib.Core.Path.{_≡_, refl, sym}
+use mathlib.Core.Path.{_≡_, refl, sym, _∙_}
 use mathlib.Core.Bool.{Bool, true, false}
 use mathlib.Core.List.{List}
 use lib.ListN.{length}
 use lib.Dec.{eqb, leb}
-use borrow.Author.Tests.{eqb-false, leb-true, le-leb, lt-leb, le-ltb, lt-ltb}
+use borrow.Author.Tests.{eqb-false, leb-true, le-ltb, lt-ltb}
 use Rattle.octets.proofs.Choices.{never, each, second-chosen}
 use Rattle.message.specs.declared.Parts.{Parts}
 use Rattle.message.specs.declared.Refusal.{Refusal}
 use Rattle.message.specs.declared.Decoded.{Decoded}
 use Rattle.message.specs.declared.Decoded.the-variants.{Read, Refused as Unread}
-use Rattle.message.specs.Decode.{messageAt}
+use Rattle.message.specs.Decode.{messageAt, decodeOf, decodingOf, ourDecoding}
+use Rattle.message.proofs.Numbered.{decoding-one}
 use Rattle.line.specs.declared.Wrote.the-variants.{Bytes, Short}
 use Rattle.line.specs.Line.{linesOf}
-use Rattle.line.specs.Answer.{answerOf, placed}
+use Rattle.line.specs.Answer.{writingOf, writing}
+use Rattle.line.proofs.Told.{short-told, bytes-told}
 use Rattle.program.specs.Records.{weightLimit}
 use Rattle.program.specs.Layout.{recordSize}
 use Rattle.program.specs.Validity.{isValid}
@@ -29,7 +28,8 @@ use Rattle.judge.specs.declared.Judged.{Judged}
 use Rattle.judge.specs.declared.Judged.the-variants.{Kept, Dropped, Refused}
 use Rattle.judge.specs.Tallies.{fullCount, isFull}
 use Rattle.judge.specs.Answers.{linesAfter}
-use Rattle.judge.specs.Judging.{decoded, numberOf, valueOf}
+use Rattle.judge.specs.Judging.{decoded}
+use Rattle.judge.specs.Functions.{valueOf}
 use Rattle.judge.specs.Executing.{tallyOf, Answer}
 
 -- a valid program has at most 8,192 bytes
@@ -64,40 +64,38 @@ room t e =
 -- ---- the answer for what a decoder said
 
 -- an answer and the lines afterwards are those of the outcome
-abbrev Comes : List ℕ → List ℕ → List ℕ → Decoded → Judged → List ℕ → Type 0
-Comes program bytes old d j new = Answer j (decoded program bytes (length old) d) × (new ≡ linesAfter (decoded program bytes (length old) d) old)
+abbrev Comes : List ℕ → List ℕ → List ℕ → Judged → List ℕ → Type 0
+Comes program bytes old j new =
+    let o = decoded program bytes (length old) (decodeOf bytes) in
+    Answer j o × (new ≡ linesAfter o old)
 
-module _ (program bytes old : List ℕ) (d : Decoded) where
+module _ (program bytes old : List ℕ) (d : Decoded) (decoding : decodingOf d ≡ ourDecoding bytes) where
+  -- the outcome goes by what the decoder said
+  goes-by : {x : Decoded} → d ≡ x → decodeOf bytes ≡ x
+  goes-by e = sym (decoding-one d (decodeOf bytes) decoding) ∙ e
+
   -- a record that isn't read
-  pub comes-unread : (why : Refusal) → d ≡ Unread why → Comes program bytes old d (Refused (Record why)) old
-  unfolding valueOf numberOf tallyOf
-  comes-unread why e = rw e (record { said = refl; counts = λ t. refl }, refl)
+  pub comes-unread : (why : Refusal) → d ≡ Unread why → Comes program bytes old (Refused (Record why)) old
+  unfolding valueOf tallyOf
+  comes-unread why e = rw (goes-by e) (record { said = refl; counts = λ t. refl }, refl)
 
   module _ (parts : Parts) (read : d ≡ Read parts) (steps : ℕ) where
     -- a record that is dropped
-    pub comes-dropped : (false, steps) ≡ machine (recordTruth (messageAt bytes parts)) program → Comes program bytes old d (Dropped steps) old
+    pub comes-dropped : (false, steps) ≡ machine (recordTruth (messageAt bytes parts)) program → Comes program bytes old (Dropped steps) old
     unfolding valueOf tallyOf
-    comes-dropped e = rw (read, ← e) (record { said = refl; counts = λ t. refl }, refl)
+    comes-dropped e = rw (goes-by read, ← e) (record { said = refl; counts = λ t. refl }, refl)
 
-    module _ (ran : (true, steps) ≡ machine (recordTruth (messageAt bytes parts)) program) (new : List ℕ) (left : new ≡ placed (linesOf (messageAt bytes parts)) old) where
+    module _ (ran : (true, steps) ≡ machine (recordTruth (messageAt bytes parts)) program) (new : List ℕ) where
       -- one that is kept without room for its lines
-      pub comes-short : Short ≡ answerOf (linesOf (messageAt bytes parts)) old → Comes program bytes old d (Refused Lines) new
-      unfolding valueOf numberOf tallyOf
-      comes-short = go (decLe (length (linesOf (messageAt bytes parts))) (length old)) left
-        where
-          go : Dec (length (linesOf (messageAt bytes parts)) ≤ length old) → new ≡ placed (linesOf (messageAt bytes parts)) old
-              → Short ≡ answerOf (linesOf (messageAt bytes parts)) old → Comes program bytes old d (Refused Lines) new
-          go (yes h) f e = let z : _≡_ {A = ℕ} 0 1 = cc (le-leb _ _ h) in absurd (omega arith)
-          go (no n) f e = rw (read, ← ran, lt-ltb _ _ (lt-of-not-le n)) (record { said = refl; counts = λ t. refl }, rw (lt-leb _ _ (lt-of-not-le n)) at f)
+      pub comes-short : writingOf Short new ≡ writing (linesOf (messageAt bytes parts)) old → Comes program bytes old (Refused Lines) new
+      unfolding valueOf tallyOf
+      comes-short e =
+          let x = short-told (linesOf (messageAt bytes parts)) old e in
+          rw (goes-by read, ← ran, lt-ltb _ _ (x .0)) (record { said = refl; counts = λ t. refl }, x .1)
 
       -- one that is kept, with its lines
-      pub comes-kept : (size : ℕ) → Bytes size ≡ answerOf (linesOf (messageAt bytes parts)) old → Comes program bytes old d (Kept steps size) new
+      pub comes-kept : (size : ℕ) → writingOf (Bytes size) new ≡ writing (linesOf (messageAt bytes parts)) old → Comes program bytes old (Kept steps size) new
       unfolding valueOf tallyOf
-      comes-kept size = go (decLe (length (linesOf (messageAt bytes parts))) (length old)) left
-        where
-          go : Dec (length (linesOf (messageAt bytes parts)) ≤ length old) → new ≡ placed (linesOf (messageAt bytes parts)) old
-              → Bytes size ≡ answerOf (linesOf (messageAt bytes parts)) old → Comes program bytes old d (Kept steps size) new
-          go (no n) f e = let z : _≡_ {A = ℕ} 0 1 = cc (lt-leb _ _ (lt-of-not-le n)) in absurd (omega arith)
-          go (yes h) f e =
-              let s : size ≡ length (linesOf (messageAt bytes parts)) = cc (le-leb _ _ h) in
-              rw (read, ← ran, le-ltb _ _ h, s) (record { said = refl; counts = λ t. refl }, rw (le-leb _ _ h) at f)
+      comes-kept size e =
+          let x = bytes-told (linesOf (messageAt bytes parts)) old e in
+          rw (goes-by read, ← ran, le-ltb _ _ (x .0), x .1) (record { said = refl; counts = λ t. refl }, x .2)

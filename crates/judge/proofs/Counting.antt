@@ -1,53 +1,70 @@
 -- The numbers of the answers, and what each does to a tally. Assumes nothing.
 use Prim.Native.Nat.{ℕ, _+_, _≤_}
 use native.Mathlib.Omega.{arith}
-use mathlib.Core.Path.{_≡_, refl}
+use mathlib.Core.Path.{_≡_, refl, sym, ap, _∙_}
 use mathlib.Core.Option.{Option, some}
 use mathlib.Core.List.{List}
-use Rattle.message.specs.declared.Refusal.{Refusal}
+use lib.Dec.{eqb}
+use Rattle.octets.specs.Choice.{pick}
+use Rattle.message.specs.declared.Refusal.{Refusal as RecordRefusal}
 use Rattle.message.specs.declared.Refusal.the-variants.{Size, Kind, Peer, Frame, Sections, Attributes, Body, Prefix}
-use Rattle.message.specs.Refusals.{number}
+use Rattle.message.specs.Refusals.{rows}
+use Rattle.message.proofs.Numbered.{refusalOf as recordRefusalOf}
 use Rattle.line.specs.Answer.{lineRoom, shortNumber}
 use Rattle.line.proofs.Room.{room-suffices}
 use Rattle.judge.specs.declared.Tally.{Tally}
+use Rattle.judge.specs.declared.Refusal.{Refusal}
+use Rattle.judge.specs.declared.Refusal.the-variants.{Program, Count, Record, Lines}
 use Rattle.judge.specs.Tallies.{fullCount, Full, seen as full-seen, kept as full-kept, dropped as full-dropped, refused as full-refused, full as full-tally}
-use Rattle.judge.specs.Answers.{Outcome, kept, dropped, refused, declined, Answers, not-valid, full, unread, drops, short, keeps, tallyAfter}
+use Rattle.judge.specs.Answers.{numberOf, Outcome, kept, dropped, refused, Answers, not-valid, full, unread, drops, short, keeps, tallyAfter}
 
 -- ---- the numbers
 
 -- the numbers of a record's refusals are 11 to 18
-refusal-number : (r : Refusal) → (11 ≤ number r) × (number r ≤ 18)
-refusal-number Size = omega arith
-refusal-number Kind = omega arith
-refusal-number Peer = omega arith
-refusal-number Frame = omega arith
-refusal-number Sections = omega arith
-refusal-number Attributes = omega arith
-refusal-number Body = omega arith
-refusal-number Prefix = omega arith
+pub record-number : (why : RecordRefusal) → (11 ≤ numberOf (Record why)) × (numberOf (Record why) ≤ 18)
+unfolding numberOf
+record-number Size = omega arith
+record-number Kind = omega arith
+record-number Peer = omega arith
+record-number Frame = omega arith
+record-number Sections = omega arith
+record-number Attributes = omega arith
+record-number Body = omega arith
+record-number Prefix = omega arith
 
-module _ {program bytes : List ℕ} {room : ℕ} {counting : Option Tally} where
-  -- a refusal that is counted is one of 11 to 18
-  pub refused-number : {n : ℕ} → Answers program bytes room counting (refused n) → (11 ≤ n) × (n ≤ 18)
-  refused-number (unread {r} v n x) = refusal-number r
+-- all are 11 to 21
+pub number-between : (why : Refusal) → (11 ≤ numberOf why) × (numberOf why ≤ 21)
+unfolding numberOf
+number-between Program = omega arith
+number-between Count = omega arith
+number-between (Record why) = omega (arith, record-number why)
+number-between Lines = omega arith
 
-  -- one that isn't is 19, 20 or 21
-  pub declined-number : {n : ℕ} → Answers program bytes room counting (declined n) → (19 ≤ n) × (n ≤ 21)
-  declined-number (not-valid n) = omega arith
-  declined-number (full v f) = omega arith
-  declined-number (short v n r e h) = omega arith
+-- the refusal that has a number
+abbrev refusalOf : ℕ → Refusal
+refusalOf n = pick (eqb n 20) Program (pick (eqb n 21) Count (pick (eqb n shortNumber) Lines (Record (recordRefusalOf n))))
 
-  -- 65,536 bytes of room never give 19
-  pub roomy : lineRoom ≤ room → Answers program bytes room counting (declined shortNumber) → ⊥
-  roomy h a = by-case a refl
-    where
-      by-case : {o : Outcome} → Answers program bytes room counting o → o ≡ declined shortNumber → ⊥
-      by-case (short v n r e l) x = omega (arith, room-suffices r)
-      by-case (not-valid n) x = let z : _≡_ {A = ℕ} 20 19 = cc x in omega arith
-      by-case (full v f) x = let z : _≡_ {A = ℕ} 21 19 = cc x in omega arith
-      by-case (unread v n y) x = let z : _≡_ {A = ℕ} 0 1 = cc x in omega arith
-      by-case (drops v n r e) x = let z : _≡_ {A = ℕ} 0 1 = cc x in omega arith
-      by-case (keeps v n r e l) x = let z : _≡_ {A = ℕ} 0 1 = cc x in omega arith
+refusal-back : (why : Refusal) → refusalOf (numberOf why) ≡ why
+unfolding numberOf rows
+refusal-back Program = refl
+refusal-back Count = refl
+refusal-back (Record Size) = refl
+refusal-back (Record Kind) = refl
+refusal-back (Record Peer) = refl
+refusal-back (Record Frame) = refl
+refusal-back (Record Sections) = refl
+refusal-back (Record Attributes) = refl
+refusal-back (Record Body) = refl
+refusal-back (Record Prefix) = refl
+refusal-back Lines = refl
+
+-- so the numbers tell the refusals apart
+pub number-one : (why other : Refusal) → numberOf why ≡ numberOf other → why ≡ other
+number-one why other e = sym (refusal-back why) ∙ ap refusalOf e ∙ refusal-back other
+
+-- 65,536 bytes of room never give 19
+pub roomy : {program bytes : List ℕ} {room : ℕ} {counting : Option Tally} → lineRoom ≤ room → Answers program bytes room counting (refused Lines) → ⊥
+roomy h (short v n r e l) = omega (arith, room-suffices r)
 
 -- ---- no count overflows
 
@@ -72,8 +89,10 @@ after-fits o {t} f n =
         → TallyFits (tallyAfter o t)
     by-outcome (kept steps lines) a b c d = omega arith
     by-outcome (dropped steps) a b c d = omega arith
-    by-outcome (refused n) a b c d = omega arith
-    by-outcome (declined n) a b c d = f
+    by-outcome (refused (Record why)) a b c d = omega arith
+    by-outcome (refused Program) a b c d = f
+    by-outcome (refused Count) a b c d = f
+    by-outcome (refused Lines) a b c d = f
 
 -- where it is full, the answer is 20 or 21: so each count fits after judging with any tally
 pub answer-fits : {program bytes : List ℕ} {room : ℕ} {t : Tally} {o : Outcome} → Answers program bytes room (some t) o → TallyFits t → TallyFits (tallyAfter o t)

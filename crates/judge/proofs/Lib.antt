@@ -6,5 +6,4 @@ pub mod Counting
 pub mod Execution
 pub mod Lent
 pub mod Readings
-pub mod Saying
 pub mod Tallies

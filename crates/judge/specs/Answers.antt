@@ -6,7 +6,7 @@ use mathlib.Core.Option.{Option}
 use mathlib.Core.List.{List, _++_}
 use lib.ListN.{length, drop}
 use Rattle.message.specs.Message.{Message}
-use Rattle.message.specs.declared.Refusal.{Refusal}
+use Rattle.message.specs.declared.Refusal.{Refusal as RecordRefusal}
 use Rattle.message.specs.Represents.{Represents}
 use Rattle.message.specs.Refusals.{RefusedWith, number}
 use Rattle.line.specs.Line.{linesOf}
@@ -15,32 +15,39 @@ use Rattle.program.specs.Machine.{machine}
 use Rattle.program.specs.Validity.{Valid}
 use Rattle.truth.specs.Records.{recordTruth}
 use Rattle.judge.specs.declared.Tally.{Tally}
+use Rattle.judge.specs.declared.Refusal.{Refusal}
+use Rattle.judge.specs.declared.Refusal.the-variants.{Program, Count, Record, Lines}
 use Rattle.judge.specs.Tallies.{FullTally, oneKept, oneDropped, oneRefused}
+
+-- the paper's numbers
+unfoldable pub numberOf : Refusal → ℕ
+numberOf Program = 20
+numberOf Count = 21
+numberOf (Record why) = number why
+numberOf Lines = shortNumber
 
 pub data Outcome : Type 0 where
   -- steps, and the lines
   kept : ℕ → List ℕ → Outcome
   -- steps
   dropped : ℕ → Outcome
-  -- a number that is counted as refused: 11 to 18
-  refused : ℕ → Outcome
-  -- a number that isn't: 19, 20, 21
-  declined : ℕ → Outcome
+  refused : Refusal → Outcome
 
 -- the answer for a program, the bytes of a record, the room for lines and a tally or none
 pub data Answers (program bytes : List ℕ) (room : ℕ) (counting : Option Tally) : Outcome → Type 1 where
   -- 20: program not valid
-  not-valid : (Valid program → ⊥) → Answers program bytes room counting (declined 20)
+  not-valid : (Valid program → ⊥) → Answers program bytes room counting (refused Program)
   -- 21: judging with a tally that is full
-  full : Valid program → FullTally counting → Answers program bytes room counting (declined 21)
+  full : Valid program → FullTally counting → Answers program bytes room counting (refused Count)
   -- 11 to 18
-  unread : {r : Refusal} → Valid program → (FullTally counting → ⊥) → RefusedWith bytes r → Answers program bytes room counting (refused (number r))
+  unread : {why : RecordRefusal} → Valid program → (FullTally counting → ⊥) → RefusedWith bytes why
+      → Answers program bytes room counting (refused (Record why))
   -- the last flag is the verdict
   drops : {m : Message} {steps : ℕ} → Valid program → (FullTally counting → ⊥) → Represents m bytes → machine (recordTruth m) program ≡ (false, steps)
       → Answers program bytes room counting (dropped steps)
   -- 19: record kept and line buffer too short
   short : {m : Message} {steps : ℕ} → Valid program → (FullTally counting → ⊥) → Represents m bytes → machine (recordTruth m) program ≡ (true, steps)
-      → room < length (linesOf m) → Answers program bytes room counting (declined shortNumber)
+      → room < length (linesOf m) → Answers program bytes room counting (refused Lines)
   keeps : {m : Message} {steps : ℕ} → Valid program → (FullTally counting → ⊥) → Represents m bytes → machine (recordTruth m) program ≡ (true, steps)
       → length (linesOf m) ≤ room → Answers program bytes room counting (kept steps (linesOf m))
 
@@ -48,12 +55,13 @@ pub data Answers (program bytes : List ℕ) (room : ℕ) (counting : Option Tall
 abbrev pub linesAfter : Outcome → List ℕ → List ℕ
 linesAfter (kept steps lines) old = lines ++ drop (length lines) old
 linesAfter (dropped steps) old = old
-linesAfter (refused n) old = old
-linesAfter (declined n) old = old
+linesAfter (refused why) old = old
 
--- the tally afterwards
+-- the tally afterwards: of the refusals only those of a record, 11 to 18, are counted
 abbrev pub tallyAfter : Outcome → Tally → Tally
 tallyAfter (kept steps lines) t = oneKept t
 tallyAfter (dropped steps) t = oneDropped t
-tallyAfter (refused n) t = oneRefused t
-tallyAfter (declined n) t = t
+tallyAfter (refused (Record why)) t = oneRefused t
+tallyAfter (refused Program) t = t
+tallyAfter (refused Count) t = t
+tallyAfter (refused Lines) t = t

@@ -5,6 +5,8 @@ use mathlib.Core.Bool.{Bool}
 use mathlib.Core.List.{List}
 use lib.ListN.{drop}
 use Rattle.message.specs.Message.{Message}
+use Rattle.message.specs.declared.Decoded.{Decoded}
+use Rattle.message.specs.declared.Decoded.the-variants.{Read as decodedRead, Refused as decodedRefused}
 use Rattle.program.specs.Layout.{recordSize, decode}
 use Rattle.program.specs.Machine.{classOf, moved}
 use Rattle.truth.specs.Records.{truthAt}
@@ -15,7 +17,12 @@ use Rattle.judge.specs.declared.Judged.{Judged}
 use Rattle.judge.specs.declared.Judged.the-variants.{Kept, Dropped, Refused}
 use Rattle.judge.specs.Tallies.{oneKept, oneDropped, oneRefused}
 use Rattle.judge.specs.Answers.{Outcome, tallyAfter}
-use Rattle.judge.specs.Judging.{valueOf, saidOf}
+use Rattle.judge.specs.Functions.{valueOf, saidOf}
+
+-- the answer for a record that isn't read; no caller asks it of one that is
+abbrev pub unreadOf : Decoded → Judged
+unreadOf (decodedRefused why) = Refused (Record why)
+unreadOf (decodedRead parts) = Refused Lines
 
 -- the tally after an answer
 unfoldable pub tallyOf : Judged → Tally → Tally

@@ -5,15 +5,15 @@ ghost use mathlib.Core.Option.{some, none};
 ghost use Prim.Native.Nat.{_+_, _*_, _≤_};
 ghost use lib.ListN.{length};
 ghost use Rattle.octets.specs.Choice.{pick};
-ghost use Rattle.message.specs.declared.Refusal.{Refusal as MessageRefusal};
 ghost use Rattle.message.specs.Decode.{messageAt, decodeOf};
 ghost use Rattle.program.specs.Layout.{recordSize};
 ghost use Rattle.program.specs.Machine.{machine};
 ghost use Rattle.truth.specs.Records.{recordTruth};
 ghost use Rattle.judge.specs.Tallies.{isFull};
-ghost use Rattle.judge.specs.Answers.{linesAfter, tallyAfter};
-ghost use Rattle.judge.specs.Judging.{decoded, judgeOf, numberOf, valueOf, saidOf};
-ghost use Rattle.judge.specs.Executing.{tallyOf, Answer, stateAfter};
+ghost use Rattle.judge.specs.Answers.{numberOf, linesAfter};
+ghost use Rattle.judge.specs.Judging.{decoded};
+ghost use Rattle.judge.specs.Functions.{judgingOf, ourJudge};
+ghost use Rattle.judge.specs.Executing.{unreadOf, tallyOf, Answer, stateAfter};
 use line::Wrote;
 use message::Decoded;
 use message::Parts;
@@ -137,7 +137,7 @@ fn execute(program: &[u8], bytes: &[u8], parts: Parts) -> State
 
 // The refusal of a record that isn't read.
 fn unread(decoded: Decoded) -> Judged
-    ensures { λ r. ⌜ ((why : MessageRefusal) → decoded ≡ Decoded.Refused why → r ≡ Judged.Refused (Refusal.Record why)) ⌝ }
+    ensures { λ r. ⌜ r ≡ unreadOf decoded ⌝ }
 {
     match decoded {
         Decoded::Refused(why) => Judged::Refused(Refusal::Record(why)),
@@ -170,8 +170,7 @@ fn judge_valid(program: &[u8], bytes: &[u8], lines: &mut [u8]) -> Judged
 
 // Judges a record with a program.
 pub fn judge(program: &[u8], bytes: &[u8], lines: &mut [u8]) -> Judged
-    ensures { λ r. ⌜ valueOf r ≡ saidOf (judgeOf (now (program .entry)) (now (bytes .entry)) (length (now (lines .entry))) none) ⌝ }
-    ensures { λ r. ⌜ now (lines .exit) ≡ linesAfter (judgeOf (now (program .entry)) (now (bytes .entry)) (length (now (lines .entry))) none) (now (lines .entry)) ⌝ }
+    ensures { λ r. ⌜ judgingOf r (now (lines .exit)) none ≡ ourJudge (now (program .entry)) (now (bytes .entry)) (now (lines .entry)) none ⌝ }
 {
     if !program::is_valid(program) {
         return Judged::Refused(Refusal::Program);
@@ -240,9 +239,7 @@ fn count(judged: Judged, tally: Tally) -> Tally
 
 // Judges a record with a program, and counts it.
 pub fn judge_with(program: &[u8], bytes: &[u8], lines: &mut [u8], tally: Tally) -> Counted
-    ensures { λ r. ⌜ valueOf (r .judged) ≡ saidOf (judgeOf (now (program .entry)) (now (bytes .entry)) (length (now (lines .entry))) (some tally)) ⌝ }
-    ensures { λ r. ⌜ r .tally ≡ tallyAfter (judgeOf (now (program .entry)) (now (bytes .entry)) (length (now (lines .entry))) (some tally)) tally ⌝ }
-    ensures { λ r. ⌜ now (lines .exit) ≡ linesAfter (judgeOf (now (program .entry)) (now (bytes .entry)) (length (now (lines .entry))) (some tally)) (now (lines .entry)) ⌝ }
+    ensures { λ r. ⌜ judgingOf (r .judged) (now (lines .exit)) (some (r .tally)) ≡ ourJudge (now (program .entry)) (now (bytes .entry)) (now (lines .entry)) (some tally) ⌝ }
 {
     if !program::is_valid(program) {
         return Counted {
@@ -263,9 +260,7 @@ pub fn judge_with(program: &[u8], bytes: &[u8], lines: &mut [u8], tally: Tally) 
 
 // Judges a record with a program, and counts it in the tally that is lent.
 pub fn judge_counted(program: &[u8], bytes: &[u8], lines: &mut [u8], tally: &mut Tally) -> Judged
-    ensures { λ r. ⌜ valueOf r ≡ saidOf (judgeOf (now (program .entry)) (now (bytes .entry)) (length (now (lines .entry))) (some (now (tally .entry)))) ⌝ }
-    ensures { λ r. ⌜ now (tally .exit) ≡ tallyAfter (judgeOf (now (program .entry)) (now (bytes .entry)) (length (now (lines .entry))) (some (now (tally .entry)))) (now (tally .entry)) ⌝ }
-    ensures { λ r. ⌜ now (lines .exit) ≡ linesAfter (judgeOf (now (program .entry)) (now (bytes .entry)) (length (now (lines .entry))) (some (now (tally .entry)))) (now (lines .entry)) ⌝ }
+    ensures { λ r. ⌜ judgingOf r (now (lines .exit)) (some (now (tally .exit))) ≡ ourJudge (now (program .entry)) (now (bytes .entry)) (now (lines .entry)) (some (now (tally .entry))) ⌝ }
 {
     let counted = judge_with(program, bytes, lines, *tally);
     *tally = counted.tally;

@@ -8,3 +8,4 @@ pub mod Numbers
 pub mod PathCosts
 pub mod Room
 pub mod Texts
+pub mod Told

@@ -3,7 +3,7 @@ use Prim.Native.Nat.{ℕ, _≤_, _<_}
 use native.Mathlib.Nat.{zero-add, lt-of-not-le}
 use native.Mathlib.Decide.{decLe}
 use native.Mathlib.Omega.{arith}
-use mathlib.Core.Path.{_≡_, refl, sym, ap, _∙_}
+use mathlib.Core.Path.{_≡_, sym, ap, _∙_}
 use mathlib.Core.List.{List, [], _++_}
 use lib.ListN.{length}
 use borrow.Author.Tests.{lt-leb, le-leb}
@@ -11,17 +11,17 @@ use Rattle.octets.specs.Writes.{lastPlace, upTo, Written}
 use Rattle.octets.proofs.Writes.{upTo-in, upTo-out, sets-past, sets-start}
 use Rattle.line.specs.declared.Wrote.{Wrote}
 use Rattle.line.specs.declared.Wrote.the-variants.{Bytes, Short}
-use Rattle.line.specs.Answer.{answerOf, placed}
+use Rattle.line.specs.Answer.{writingOf, writing}
 
 -- an answer and a buffer are as writing a text over a buffer asks
 abbrev Answers : List ℕ → List ℕ → Wrote → List ℕ → Type 0
-Answers text old r new = (r ≡ answerOf text old) × (new ≡ placed text old)
+Answers text old r new = writingOf r new ≡ writing text old
 
 -- a text that fits is written
 pub fitting : {text old new : List ℕ} {r : ℕ} → length text ≤ length old → Written old 0 text new r → Answers text old (Bytes r) new
 fitting {text} {old} {new} {r} h w =
     let e : r ≡ length text = w .place ∙ ap upTo (zero-add (length text)) ∙ upTo-in (length text) (omega (arith, w .sized)) in
-    (simp (le-leb _ _ h) (ap Bytes e), simp (le-leb _ _ h) (w .laid ∙ sets-start text old h))
+    rw (le-leb _ _ h, e, w .laid ∙ sets-start text old h)
 
 -- a run on an empty part
 module _ {text part : List ℕ} {need : ℕ} (v : Written [] 0 text part need) where
@@ -43,7 +43,7 @@ module _ {text part : List ℕ} {need : ℕ} (v : Written [] 0 text part need) w
   too-short old h =
       let k : length old < need = rw untouched at h in
       let g : length old < length text = omega (arith, measured (decLe (length text) lastPlace) .0) in
-      (simp (lt-leb _ _ g), simp (lt-leb _ _ g) (rw untouched refl))
+      rw (lt-leb _ _ g, untouched)
 
   -- any other has the text written
   pub long-enough : (old : List ℕ) {new : List ℕ} {r : ℕ} → length old < lastPlace → need ≤ length (part ++ old) → Written (part ++ old) 0 text new r
@@ -52,5 +52,4 @@ module _ {text part : List ℕ} {need : ℕ} (v : Written [] 0 text part need) w
       let k : need ≤ length old = rw untouched at h in
       let e : need ≡ length text = measured (decLe (length text) lastPlace) .1 (omega arith) in
       let u : Written old 0 text new r = rw untouched at w in
-      let f = fitting (omega arith) u in
-      (ap Bytes (v .place ∙ sym (u .place)) ∙ f .0, f .1)
+      rw (v .place ∙ sym (u .place)) (fitting (omega arith) u)

@@ -14,6 +14,30 @@ use Rattle.line.specs.declared.Wrote.the-variants.{Bytes, Short}
 abbrev pub lineRoom : ℕ
 lineRoom = 65536
 
+-- 19: line buffer too short
+abbrev pub shortNumber : ℕ
+shortNumber = 19
+
+-- what writing answers, and the buffer afterwards: 0 and the bytes written, or 19
+pub record Writing : Type 0 where
+  pub number : ℕ
+  pub written : ℕ
+  pub buffer : List ℕ
+
+-- what the code's answer says, with the buffer afterwards
+abbrev pub writingOf : Wrote → List ℕ → Writing
+writingOf (Bytes n) buffer = record { number = 0; written = n; buffer = buffer }
+writingOf Short buffer = record { number = shortNumber; written = 0; buffer = buffer }
+
+-- a text goes over the start of a buffer that has room for it; else the buffer stays as it was
+abbrev pub writing : List ℕ → List ℕ → Writing
+writing text old =
+    pick (leb (length text) (length old))
+    (record { number = 0; written = length text; buffer = text ++ drop (length text) old })
+    (record { number = shortNumber; written = 0; buffer = old })
+
+-- ---- what the code computes
+
 -- the sizes of the sections alone show that the room suffices
 abbrev pub isAmple : Parts → ℕ → Bool
 isAmple p room =
@@ -22,15 +46,3 @@ isAmple p room =
     (pick (ltb messageLimit (p .attributes .len)) false
     (pick (ltb messageLimit (p .announced .len)) false
     (leb (p .withdrawn .len + p .attributes .len + p .announced .len) messageLimit))))
-
--- 19: line buffer too short
-abbrev pub shortNumber : ℕ
-shortNumber = 19
-
--- the bytes written, or that the buffer is too short
-abbrev pub answerOf : List ℕ → List ℕ → Wrote
-answerOf text old = pick (leb (length text) (length old)) (Bytes (length text)) Short
-
--- the text at the start of a buffer that has room for it; else the buffer as it was
-abbrev pub placed : List ℕ → List ℕ → List ℕ
-placed text old = pick (leb (length text) (length old)) (text ++ drop (length text) old) old

@@ -10,7 +10,7 @@ ghost use Rattle.attributes.specs.Bodies.{attributesOf};
 ghost use Rattle.message.specs.Decode.{partOf, networksOf, messageAt};
 ghost use Rattle.line.specs.Text.{separated, following, prefixesText, segmentText, pathText};
 ghost use Rattle.line.specs.Line.{pathField, nextHopField, originField, atomicField, originText, widthText, attributeFields, closingFields, lineOf, linesOf};
-ghost use Rattle.line.specs.Answer.{isAmple, answerOf, placed};
+ghost use Rattle.line.specs.Answer.{isAmple, writingOf, writing};
 use aspath::Width;
 use attributes::Found;
 use message::Part;
@@ -289,8 +289,7 @@ fn ample(parts: Parts, room: usize) -> bool
 
 // The lines of a message at the start of a buffer. One that is too short for both stays as it is.
 pub fn write(s: &[u8], parts: Parts, out: &mut [u8]) -> Wrote
-    ensures { λ r. ⌜ r ≡ answerOf (linesOf (messageAt (now (s .entry)) parts)) (now (out .entry)) ⌝ }
-    ensures { λ r. ⌜ now (out .exit) ≡ placed (linesOf (messageAt (now (s .entry)) parts)) (now (out .entry)) ⌝ }
+    ensures { λ r. ⌜ writingOf r (now (out .exit)) ≡ writing (linesOf (messageAt (now (s .entry)) parts)) (now (out .entry)) ⌝ }
 {
     if ample(parts, out.len()) {
         return Wrote::Bytes(put_lines(out, 0, s, parts));

@@ -8,6 +8,7 @@ pub mod Fields
 pub mod FrameFields
 pub mod HeaderChecks
 pub mod MessageAt
+pub mod Numbered
 pub mod Ones
 pub mod Places
 pub mod ReadableRecords

@@ -99,7 +99,7 @@ abbrev pub refusals : List Refusal
 refusals = map (λ (row : Row). row .refusal) rows
 
 -- the number of a refusal is 11 and its row's place
-number-place : (r : Refusal) → getD refusals (number r - 11) Size ≡ r
+pub number-place : (r : Refusal) → getD refusals (number r - 11) Size ≡ r
 unfolding rows
 number-place Size = refl
 number-place Kind = refl
@@ -111,5 +111,5 @@ number-place Body = refl
 number-place Prefix = refl
 
 -- so the numbers tell the refusals apart
-pub number-one : {r r′ : Refusal} → number r ≡ number r′ → r ≡ r′
-number-one {r} {r′} e = sym (number-place r) ∙ ap (λ (n : ℕ). getD refusals (n - 11) Size) e ∙ number-place r′
+pub number-one : (r r′ : Refusal) → number r ≡ number r′ → r ≡ r′
+number-one r r′ e = sym (number-place r) ∙ ap (λ (n : ℕ). getD refusals (n - 11) Size) e ∙ number-place r′

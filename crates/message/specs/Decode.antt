@@ -1,6 +1,7 @@
 -- What decoding a record answers, and what the answer's places and numbers stand for.
 use Prim.Native.Nat.{ℕ, zero, suc, _+_, _-_}
 use mathlib.Core.Bool.{Bool, true, false, not}
+use mathlib.Core.Option.{Option, some, none}
 use mathlib.Core.List.{List}
 use lib.ListN.{length, getD, drop}
 use lib.Dec.{ltb, eqb}
@@ -24,7 +25,7 @@ use Rattle.message.specs.Message.{Message, update}
 use Rattle.message.specs.Represents.{addressBits, messageLimit, markerSize, frameHeader, ipv4, bgp4mp, subtypeOf}
 use Rattle.octets.specs.Header.{headerSize, secondsField, typeField, subtypeField, lengthField}
 use Rattle.message.specs.Fields.{widthOf, frameStart, peerAsField, familyField, peerAddressField, frame, frameLength, kindField, bodyStart, body, withdrawnSize, attributesSize, withdrawnIn, attributesIn, announcedIn}
-use Rattle.message.specs.Refusals.{recordLimit}
+use Rattle.message.specs.Refusals.{recordLimit, number as numberOf}
 
 -- ---- what the answer stands for
 
@@ -145,3 +146,17 @@ decodeOf s =
     pick (wrongSize s) (Refused Size)
     (pick (wrongKind s) (Refused Kind)
     (messageOf (widthOf s) s))
+
+-- ---- as a number
+
+-- what decoding answers: 0 and the parts, or a refusal's number
+pub record Decoding : Type 0 where
+  pub number : ℕ
+  pub parts : Option Parts
+
+abbrev pub decodingOf : Decoded → Decoding
+decodingOf (Read parts) = record { number = 0; parts = some parts }
+decodingOf (Refused why) = record { number = numberOf why; parts = none }
+
+abbrev pub ourDecoding : List ℕ → Decoding
+ourDecoding bytes = decodingOf (decodeOf bytes)

@@ -5,7 +5,7 @@ ghost use lib.ListN.{length};
 ghost use Rattle.message.specs.Represents.{markerSize};
 ghost use Rattle.message.specs.Fields.{widthOf, frameStart, frame, kindField, bodyStart, body, withdrawnSize, attributesSize};
 ghost use Rattle.message.specs.Refusals.{number};
-ghost use Rattle.message.specs.Decode.{wrongSize, wrongKind, wrongPeer, ones, wrongFrame, wrongSections, wrongPrefix, otherParts, updateParts, updateOf, messageOf, decodeOf};
+ghost use Rattle.message.specs.Decode.{wrongSize, wrongKind, wrongPeer, ones, wrongFrame, wrongSections, wrongPrefix, otherParts, updateParts, updateOf, messageOf, decodingOf, ourDecoding};
 use aspath::Width;
 
 // Where a part stands in its record.
@@ -240,7 +240,7 @@ fn message(s: &[u8], width: Width) -> Decoded
 
 // The parts of a record's message, or the first refusal of the table that holds.
 pub fn decode(s: &[u8]) -> Decoded
-    ensures { λ r. ⌜ r ≡ decodeOf (now (s .entry)) ⌝ }
+    ensures { λ r. ⌜ decodingOf r ≡ ourDecoding (now (s .entry)) ⌝ }
 {
     if wrong_size(s) {
         return Decoded::Refused(Refusal::Size);

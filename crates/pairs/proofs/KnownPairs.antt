@@ -9,6 +9,9 @@ use Rattle.aspath.specs.declared.Item.the-variants.{Number}
 use Rattle.aspath.specs.Bogons.{isBogon}
 use Rattle.aspath.proofs.MeaningBogons.{bogon-sound, bogon-complete}
 use Rattle.program.specs.Readings.{byAs, eitherSide, withdrawn, pathMatches, peerIs, hasLoop, hasBogon, networkIs, and, Reading, test, neg, joint, verdict, steps}
+use Rattle.filter.specs.declared.Refusal.{Refusal}
+use Rattle.filter.specs.declared.Refusal.the-variants.{Token as BadToken}
+use Rattle.filter.specs.Answers.{numberOf}
 use Rattle.filter.specs.Answers as words
 use Rattle.filter.specs.Answering.{answer}
 use Rattle.filter.proofs.Answered.{answer-given}
@@ -21,7 +24,7 @@ use Rattle.pairs.proofs.Texts.{answerFor, truthOnR, Computed, TextOnR, 
 abbrev Shown : Pair → Type 0
 Shown (kept text count) = (r : Reading) × Computed true text r count
 Shown (dropped text count) = (r : Reading) × Computed false text r count
-Shown (refused text number place) = (room : ℕ) → answer text room ≡ words.refused number place
+Shown (refused text number place) = (why : Refusal) × (numberOf why ≡ number) × ((room : ℕ) → answer text room ≡ words.refused why place)
 Shown (bogon n) = isBogon n ≡ true
 Shown (no-bogon n) = isBogon n ≡ false
 
@@ -29,7 +32,7 @@ Shown (no-bogon n) = isBogon n ≡ false
 holds : (p : Pair) → Shown p → Holds p
 holds (kept text count) (r, c) = on-R (keeps c)
 holds (dropped text count) (r, c) = on-R (drops c)
-holds (refused text number place) e = λ room. rw (e room) at (answer-given text room)
+holds (refused text number place) (why, e, a) = λ room. (why, e, rw (a room) at (answer-given text room))
 holds (bogon n) e = bogon-sound e
 holds (no-bogon n) e = λ b. never (sym e ∙ bogon-complete b)
 
@@ -49,9 +52,9 @@ not-loops-computed = (refl, refl, refl)
 pub not-loops : TextOnR Keeps notLoopsText (neg (test hasLoop)) 2
 not-loops = keeps not-loops-computed
 
--- each pair, with the reading of its text
+-- each pair, with the reading of its text or its refusal
 each : Each pairs
-unfolding pairs answerFor truthOnR verdict steps
+unfolding pairs numberOf answerFor truthOnR verdict steps
 each =
     (test (peerIs (byAs 199036)), (refl, refl, refl))
     also (test (peerIs (byAs 2428)), (refl, refl, refl))
@@ -61,9 +64,9 @@ each =
     also (neg (test hasLoop), not-loops-computed)
     also (test (networkIs Subnet (record { address = 167772160; len = 8 }) eitherSide), (refl, refl, refl))
     also (test (networkIs Exact (record { address = 167838208; len = 24 }) withdrawn), (refl, refl, refl))
-    also (λ room. refl)  -- empty text
-    also (λ room. refl)  -- -loops )
-    also (λ room. refl)  -- -aspath !432
+    also (BadToken, refl, λ room. refl)  -- empty text
+    also (BadToken, refl, λ room. refl)  -- -loops )
+    also (BadToken, refl, λ room. refl)  -- -aspath !432
     also refl  -- 131071
     also refl  -- 131072
     also none

@@ -1,8 +1,8 @@
--- Texts of one word on R: what they read as, and that they drop it. Assumes nothing.
+-- Texts on R: what they read as, and that they drop it. Assumes nothing.
 use Prim.Native.Nat.{ℕ}
 use mathlib.Core.Path.{refl}
 use mathlib.Core.List.{List, [], _∷_}
-use Rattle.program.specs.Readings.{hasLoop, hasBogon, test, verdict, steps}
+use Rattle.program.specs.Readings.{hasLoop, hasBogon, and, test, joint, verdict, steps}
 use Rattle.truth.specs.Verdict.{Drops}
 use Rattle.pairs.proofs.Texts.{answerFor, truthOnR, TextOnR, drops}
 
@@ -14,6 +14,11 @@ loopsText = 45 ∷ 108 ∷ 111 ∷ 111 ∷ 112 ∷ 115 ∷ []
 abbrev bogonText : List ℕ
 bogonText = 45 ∷ 98 ∷ 111 ∷ 103 ∷ 111 ∷ 110 ∷ 45 ∷ 97 ∷ 115 ∷ 110 ∷ []
 
+-- -bogon-asn -and -loops
+abbrev pub bogonAndLoopsText : List ℕ
+bogonAndLoopsText =
+    45 ∷ 98 ∷ 111 ∷ 103 ∷ 111 ∷ 110 ∷ 45 ∷ 97 ∷ 115 ∷ 110 ∷ 32 ∷ 45 ∷ 97 ∷ 110 ∷ 100 ∷ 32 ∷ 45 ∷ 108 ∷ 111 ∷ 111 ∷ 112 ∷ 115 ∷ []
+
 pub loops : TextOnR Drops loopsText (test hasLoop) 1
 unfolding answerFor truthOnR verdict steps
 loops = drops (refl, refl, refl)
@@ -21,3 +26,7 @@ loops = drops (refl, refl, refl)
 pub bogon : TextOnR Drops bogonText (test hasBogon) 1
 unfolding answerFor truthOnR verdict steps
 bogon = drops (refl, refl, refl)
+
+pub bogon-and-loops : TextOnR Drops bogonAndLoopsText (joint and (test hasBogon) (test hasLoop)) 2
+unfolding answerFor truthOnR verdict steps
+bogon-and-loops = drops (refl, refl, refl)

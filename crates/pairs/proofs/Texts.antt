@@ -26,13 +26,14 @@ use Rattle.operand.specs.Tests.{meaning}
 use Rattle.filter.specs.Words.{vocabulary, roleOf}
 use Rattle.filter.specs.Reader.{read}
 use Rattle.filter.specs.Answers.{bare, DerivedWithin, Outcome, compiled, Answers, compiles}
-use Rattle.filter.specs.Answering.{numberOf, startOf, placeOf, answer}
+use Rattle.filter.specs.Answering.{startOf, placeOf, answer}
 use Rattle.filter.proofs.Answered.{answer-given}
 use Rattle.filter.proofs.CompiledValid.{reads-possible}
 use Rattle.truth.specs.Means.{onPath, somePrefix, isTrue}
-use Rattle.truth.specs.Verdict.{Keeps, Drops}
+use Rattle.truth.specs.Verdict.{Keeps, Drops, Steps}
 use Rattle.truth.proofs.Addresses.{represented-addressed, OperandsAddressed, reading-addressed}
-use Rattle.truth.proofs.Verdicts.{keeps-exactly, drops-exactly}
+use Rattle.truth.proofs.StepCounts.{steps-exactly}
+use Rattle.truth.proofs.Verdicts.{verdict-exactly}
 use Rattle.pairs.specs.RecordR.{messageR}
 use Rattle.pairs.specs.Pairs.{OnR}
 use Rattle.pairs.proofs.RecordR.{record-represents}
@@ -44,7 +45,7 @@ unfoldable pub answerFor : List ℕ → Reading → Outcome
 unfolding
     answer run lex sort bare read vocabulary roleOf found same meaning
     patternOperand itemsRead itemRead peerOperand addressRead networkOperand networkRead partRead
-    numeral number numberOn isDigit optional after cut isBlank cleared placeOf startOf numberOf weight itemCount
+    numeral number numberOn isDigit optional after cut isBlank cleared placeOf startOf weight itemCount
 answerFor text r = answer text (recordSize * weight r)
 
 -- which tests are true of R
@@ -65,7 +66,7 @@ pub record TextOnR (Verdict : Message → Reading → Type 0) (text : List ℕ) 
   pub derives : DerivedWithin text r
   pub compiles : (room : ℕ) → recordSize * weight r ≤ room → Answers text room (compiled r)
   pub verdict : Verdict messageR r
-  pub counted : steps (isTrue messageR) r ≡ count
+  pub counted : Steps messageR r count
 
 pub on-R : {Verdict : Message → Reading → Type 0} {text : List ℕ} {r : Reading} {count : ℕ} → TextOnR Verdict text r count → OnR Verdict text count
 on-R {r = r} t =
@@ -79,12 +80,18 @@ module _ {text : List ℕ} {r : Reading} {count : ℕ} where
     where
       by-answer : {room : ℕ} → Answers text room (compiled r) → TextOnR Verdict text r count
       by-answer (compiles f d w l) =
-          record { derives = d; compiles = λ room h. compiles f d w h; verdict = v (reading-addressed r (reads-possible (d .derived .reads))); counted = s }
+          let h : OperandsAddressed r = reading-addressed r (reads-possible (d .derived .reads)) in
+          record {
+            derives = d;
+            compiles = λ room l. compiles f d w l;
+            verdict = v h;
+            counted = steps-exactly (represented-addressed record-represents) r h .0 s;
+          }
 
   pub keeps : Computed true text r count → TextOnR Keeps text r count
   unfolding truthOnR
-  keeps c = told c (λ h. keeps-exactly (represented-addressed record-represents) r h .0 (c .1))
+  keeps c = told c (λ h. verdict-exactly (represented-addressed record-represents) r h .0 (c .1))
 
   pub drops : Computed false text r count → TextOnR Drops text r count
   unfolding truthOnR
-  drops c = told c (λ h. drops-exactly (represented-addressed record-represents) r h .0 (c .1))
+  drops c = told c (λ h. verdict-exactly (represented-addressed record-represents) r h .0 (c .1))

@@ -5,12 +5,12 @@ use mathlib.Core.List.{List, [], _∷_}
 use Rattle.aspath.specs.Bogons.{Bogon}
 use Rattle.message.specs.Message.{Message}
 use Rattle.message.specs.Represents.{Represents}
-use Rattle.program.specs.Readings.{Reading, weight, steps}
+use Rattle.program.specs.Readings.{Reading, weight}
 use Rattle.program.specs.Layout.{recordSize}
-use Rattle.truth.specs.Means.{isTrue}
-use Rattle.truth.specs.Verdict.{Keeps, Drops}
+use Rattle.truth.specs.Verdict.{Keeps, Drops, Steps}
+use Rattle.filter.specs.declared.Refusal.{Refusal}
 use Rattle.filter.specs.Answers as words
-use Rattle.filter.specs.Answers.{DerivedWithin, Answers, compiled}
+use Rattle.filter.specs.Answers.{numberOf, DerivedWithin, Answers, compiled}
 use Rattle.pairs.specs.RecordR.{recordR, messageR}
 
 pub data Pair : Type 0 where
@@ -27,12 +27,12 @@ pub record OnR (Verdict : Message → Reading → Type 0) (text : List ℕ) (cou
   pub derives : DerivedWithin text reading
   pub compiles : Answers text (recordSize * weight reading) (compiled reading)
   pub verdict : Verdict messageR reading
-  pub counted : steps (isTrue messageR) reading ≡ count
+  pub counted : Steps messageR reading count
 
 abbrev pub Holds : Pair → Type 0
 Holds (kept text count) = OnR Keeps text count
 Holds (dropped text count) = OnR Drops text count
-Holds (refused text number place) = (room : ℕ) → Answers text room (words.refused number place)
+Holds (refused text number place) = (room : ℕ) → (why : Refusal) × (numberOf why ≡ number) × Answers text room (words.refused why place)
 Holds (bogon n) = Bogon n
 Holds (no-bogon n) = Bogon n → ⊥
 

@@ -1,5 +1,5 @@
 -- Laws of a reading's records: how many they are, and what the machine makes of them. Assumes nothing.
-use Prim.Native.Nat.{ℕ, zero, suc, _+_, _≤_}
+use Prim.Native.Nat.{ℕ, zero, suc, _+_}
 use native.Mathlib.Nat.{zero-add}
 use native.Mathlib.Omega.{arith}
 use mathlib.Core.Path.{_≡_, refl, ap, _∙_}
@@ -68,18 +68,6 @@ length-records (test t) = omega (arith, length-map (itemsOf t) item, items-count
 length-records (neg r) = length-append (records r) (flip ∷ []) ∙ omega (arith, length-records r)
 length-records (joint o a b) =
     length-append (records a) (pass o (length (records b)) ∷ records b) ∙ omega (arith, length-records a, length-records b)
-
-pick-least : (t : Bool) (n : ℕ) → pick t n 0 ≤ n
-pick-least true n = omega arith
-pick-least false n = omega arith
-
--- a reading takes no more steps than it weighs
-pub steps-least : (truth : Test → Bool) (r : Reading) → steps truth r ≤ weight r
-unfolding steps weight
-steps-least truth (test t) = omega arith
-steps-least truth (neg r) = omega (arith, steps-least truth r)
-steps-least truth (joint o a b) =
-    omega (arith, steps-least truth a, steps-least truth b, pick-least (open′ o (verdict truth a)) (steps truth b))
 
 -- ---- the machine
 

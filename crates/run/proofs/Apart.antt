@@ -11,7 +11,8 @@ use Rattle.walk.specs.declared.Step.the-variants.{Record, Done, Cut}
 use Rattle.walk.specs.Steps.{stepAt}
 use Rattle.judge.specs.declared.Tally.{Tally}
 use Rattle.judge.specs.Tallies.{FullTally, oneKept, oneDropped, oneRefused}
-use Rattle.judge.specs.Answers.{Outcome, kept, dropped, refused, declined}
+use Rattle.judge.specs.declared.Refusal.the-variants.{Program, Count, Record as OfRecord, Lines}
+use Rattle.judge.specs.Answers.{Outcome, kept, dropped, refused}
 use Rattle.judge.specs.Functions.{Judging, ourJudge}
 use Rattle.judge.specs.Functions as judge
 use Rattle.judge.proofs.Alike.{judged-alike}
@@ -26,8 +27,10 @@ more-after : (o : Outcome) {a b : Option Tally} → OneMore a b → OneMore (jud
 more-after o uncounted = uncounted
 more-after (kept steps lines) (counted {t}) = counted {t = oneKept t}
 more-after (dropped steps) (counted {t}) = counted {t = oneDropped t}
-more-after (refused n) (counted {t}) = counted {t = oneRefused t}
-more-after (declined n) (counted {t}) = counted {t = t}
+more-after (refused (OfRecord why)) (counted {t}) = counted {t = oneRefused t}
+more-after (refused Program) (counted {t}) = counted {t = t}
+more-after (refused Count) (counted {t}) = counted {t = t}
+more-after (refused Lines) (counted {t}) = counted {t = t}
 
 -- so where neither tally is full, a record has the same answer
 same-answer : (program bytes lines : List ℕ) {a b : Option Tally} → OneMore a b → (FullTally a → ⊥) → (FullTally b → ⊥)

@@ -14,7 +14,8 @@ use Rattle.walk.specs.Split.{IsRecord}
 use Rattle.walk.proofs.Walks.{place-end}
 use Rattle.judge.specs.declared.Tally.{Tally}
 use Rattle.judge.specs.Tallies.{FullTally}
-use Rattle.judge.specs.Answers.{refused}
+use Rattle.judge.specs.declared.Refusal.the-variants.{Record}
+use Rattle.judge.specs.Answers.{numberOf, refused}
 use Rattle.judge.specs.Functions.{Judging, ourJudge}
 use Rattle.judge.specs.Functions as judge
 use Rattle.judge.proofs.Answered.{refused-judged}
@@ -23,14 +24,15 @@ use Rattle.run.specs.Damage.{NoneFull, OneMore, uncounted, counted, Refu
 use Rattle.run.proofs.Records.{judges, state-in, answer-in}
 use Rattle.run.proofs.Apart.{Apart, later-alike}
 
--- a refusal is one more seen and refused
-pub one-refused : (n : ℕ) (counting : Option Tally) → OneMore (judge.counted (refused n) counting) counting
-one-refused n none = uncounted
-one-refused n (some t) = counted
+-- a record's refusal is one more seen and refused
+pub one-refused : (why : Refusal) (counting : Option Tally) → OneMore (judge.counted (refused (Record why)) counting) counting
+one-refused why none = uncounted
+one-refused why (some t) = counted
 
 -- a damaged record gets its refusal where the tally isn't full
 refuses : {program damaged : List ℕ} {why : Refusal} → Valid program → Octets damaged → RefusedWith damaged why → (s : State) → (FullTally (s .counting) → ⊥)
     → Refuses s why (ourJudge program damaged (s .lines) (s .counting))
+unfolding numberOf
 refuses v o x s n =
     rw (refused-judged v n o x (length (s .lines)))
     (record { numbered = refl; no-steps = refl; unwritten = refl; lines-left = refl; counts = one-refused _ (s .counting) })

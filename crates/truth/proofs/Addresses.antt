@@ -15,6 +15,8 @@ use Rattle.network.proofs.Clearing.{cleared-le}
 use Rattle.message.specs.Message.{Message}
 use Rattle.message.specs.Represents.{addressBits, BodyBytes, is-update, is-other, Represents}
 use Rattle.program.specs.Readings.{Side, eitherSide, announced, withdrawn, Test, typeIs, hasAttribute, pathMatches, peerIs, hasLoop, hasBogon, networkIs, timeIs, Reading, test, neg, joint}
+use Rattle.program.specs.Records.{Possible}
+use Rattle.program.specs.Compiling.{headOf}
 use Rattle.program.proofs.ReadingValid.{PossibleTest, PossibleReading}
 use Rattle.truth.specs.Means.{prefixesOn}
 
@@ -85,6 +87,18 @@ possible-addressed hasLoop p = tt
 possible-addressed hasBogon p = tt
 possible-addressed (networkIs r n s) p = record { below = p .word .below }
 possible-addressed (timeIs c s m) p = tt
+
+-- a test whose record some text could give
+pub head-addressed : (t : Test) → Possible (headOf t) → OperandAddressed t
+unfolding headOf
+head-addressed (typeIs c) p = tt
+head-addressed (hasAttribute c) p = tt
+head-addressed (pathMatches q) p = tt
+head-addressed (peerIs q) p = tt
+head-addressed hasLoop p = tt
+head-addressed hasBogon p = tt
+head-addressed (networkIs r n s) p = record { below = p .word .below }
+head-addressed (timeIs c s m) p = tt
 
 -- a reading of such tests
 pub reading-addressed : (r : Reading) → PossibleReading r → OperandsAddressed r

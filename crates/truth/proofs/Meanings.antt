@@ -2,7 +2,7 @@
 use Prim.Native.Nat.{ℕ, zero, suc, _<_, suc-le-suc}
 use native.Mathlib.Nat.{le-of-suc-le-suc, not-suc-le-zero}
 use native.Mathlib.Omega.{arith}
-use mathlib.Core.Path.{_≡_, refl, sym, _∙_}
+use mathlib.Core.Path.{_≡_, refl, sym, ap, _∙_}
 use mathlib.Core.Bool.{Bool, true, false}
 use mathlib.Core.Logic.{_↔_}
 use mathlib.Core.List.{List, [], _∷_, map}
@@ -106,6 +106,12 @@ prefix-complete {m} {r} {n} {s} a o h =
     let k = relates-complete addressBits r n p (o .below) (every-place (side-addressed a s) n (h .place) (h .within) .below) (h .relates) in
     pick-both _ _ .1
     (eq-eqb _ _ (h .is-update), prefix-passes r n (prefixesOn s m) ∙ passes-complete (λ q. relates addressBits r n q) n (prefixesOn s m) (h .place) (h .within) k)
+
+-- a message has one path at most
+pub path-one : {m : Message} {p q : List Member} → HasPath m p → HasPath m q → p ≡ q
+path-one h k =
+    let same : h .segments ≡ k .segments = cc (sym (h .present) ∙ k .present) in
+    sym (h .joined) ∙ ap members same ∙ k .joined
 
 -- a test of the path that was found true is true of one
 path-sound : (m : Message) (test : List Member → Bool) → onPath m test ≡ true → (p : List Member) × HasPath m p × (test p ≡ true)

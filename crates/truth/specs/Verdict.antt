@@ -1,7 +1,10 @@
--- The verdict in words. The paper: "Its verdict on a record follows from the truth of its tests, with `!` as not, `-and` as both, `-or`
--- as either; true is keep."
+-- The verdict and the steps in words. The paper: "Its verdict on a record follows from the truth of its tests, with `!` as not, `-and` as both,
+-- `-or` as either; true is keep. A reading's steps: a test 1; `!x` one more than x; `-and` and `-or` the left side's plus 1, plus the right side's
+-- if the left didn't decide."
+use Prim.Native.Nat.{ℕ, _+_}
+use mathlib.Core.Bool.{Bool, true, false}
 use Rattle.message.specs.Message.{Message}
-use Rattle.program.specs.Readings.{Test, and, or, Reading, test, neg, joint}
+use Rattle.program.specs.Readings.{Test, Operator, and, or, Reading, test, neg, joint}
 use Rattle.truth.specs.Means.{Means}
 
 mutual
@@ -20,3 +23,27 @@ mutual
     left-drops : {a b : Reading} → Drops m a → Drops m (joint and a b)
     right-drops : {a b : Reading} → Drops m b → Drops m (joint and a b)
     both-drop : {a b : Reading} → Drops m a → Drops m b → Drops m (joint or a b)
+
+-- true is keep, false is drop
+abbrev pub HasVerdict : Message → Reading → Bool → Type 0
+HasVerdict m r true = Keeps m r
+HasVerdict m r false = Drops m r
+
+-- ---- steps
+
+-- the left side of a joint decides: `-and` where it drops, `-or` where it keeps
+pub data Decides (m : Message) : Operator → Reading → Type 0 where
+  and-dropped : {a : Reading} → Drops m a → Decides m and a
+  or-kept : {a : Reading} → Keeps m a → Decides m or a
+
+-- it doesn't
+pub data Undecided (m : Message) : Operator → Reading → Type 0 where
+  and-kept : {a : Reading} → Keeps m a → Undecided m and a
+  or-dropped : {a : Reading} → Drops m a → Undecided m or a
+
+-- a reading takes so many steps on a message
+pub data Steps (m : Message) : Reading → ℕ → Type 0 where
+  of-test : {t : Test} → Steps m (test t) 1
+  of-not : {r : Reading} {n : ℕ} → Steps m r n → Steps m (neg r) (n + 1)
+  of-left : {o : Operator} {a b : Reading} {n : ℕ} → Steps m a n → Decides m o a → Steps m (joint o a b) (n + 1)
+  of-both : {o : Operator} {a b : Reading} {n k : ℕ} → Steps m a n → Undecided m o a → Steps m b k → Steps m (joint o a b) (n + 1 + k)

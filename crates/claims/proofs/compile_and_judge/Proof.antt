@@ -33,7 +33,7 @@ returns c =
     let e = c .before .before .before .before .before .before .before .before .before .before .before .compile .ensures in
     let j = c .before .before .judge-in in
     let t = c .before .before .before .before .before .before .before .compiled .given in
-    promised-judged (now (a .text)) (now (a .program)) (now (a .bytes)) (now (a .lines)) (countingOf (a .counting)) _ _ (e .0) (e .1) (t .0 .0) (t .1)
+    promised-judged (now (a .text)) (now (a .program)) (now (a .bytes)) (now (a .lines)) (countingOf (a .counting)) _ _ e (t .0 .0) (t .1)
     (j .result .judged) (j .last .1 .1 .0) (countingOf (j .result .counting))
     (rw (c .before .before .before .before .part .ensures) at (j .ensures))
 
@@ -45,7 +45,7 @@ returns-2 c =
     let a = c .before .before .before .before .before .before .before .before .before .before .before .args in
     let e = c .before .before .before .before .before .compile .ensures in
     let t = c .before .compiled2 .given in
-    promised-refused (now (a .text)) (now (a .program)) (now (a .bytes)) (now (a .lines)) (countingOf (a .counting)) _ _ (e .0) (e .1) (t .0 .0) (t .0 .1 .0) (t .1)
+    promised-refused (now (a .text)) (now (a .program)) (now (a .bytes)) (now (a .lines)) (countingOf (a .counting)) _ _ e (t .0 .0) (t .0 .1 .0) (t .1)
 
 pub compile-and-judge-spec : {M : Type 1} → statement M
 compile-and-judge-spec =

@@ -1,6 +1,6 @@
 -- `filter::number_of` meets its contract. Assumes nothing.
 use borrow.Author.Needs.{needs}
-use Rattle.filter.specs.Answering.{numberOf}
+use Rattle.filter.specs.Answers.{numberOf}
 use Rattle.filter.proofs.number_of.Statement.{statement}
 use Rattle.filter.proofs.number_of.Tie as tie
 

@@ -1,10 +1,9 @@
--- `grainlantern::main` is safe and ends: a refusal's place lies within the text, so it fits 32 bits. Assumes nothing.
+-- `grainlantern::main` goes on with what compiling answered, is safe and ends. A refusal's place lies within the text, so it fits 32 bits.
+-- Assumes nothing.
 use native.Mathlib.Omega.{arith}
-use mathlib.Core.Path.{sym, ap, _∙_}
-use lib.ListN.{length-take, length-drop}
-use Rattle.filter.specs.Answering.{valueOf}
+use lib.ListN.{replicate, length-take, length-drop}
+use Rattle.grainlantern.proofs.Compiled.{place-fits, refused-at, lent}
 use borrow.Author.Needs.{needs}
-use Rattle.grainlantern.proofs.Refusals.{place-fits}
 use Rattle.grainlantern.proofs.main.Statement.{statement}
 use Rattle.grainlantern.proofs.main.Tie as tie
 
@@ -32,13 +31,14 @@ enum-known-compiled c = search needs
 number-of-requires : tie.Need-number-of-requires
 number-of-requires c κs = search needs
 
-cast-refuse : tie.Need-cast-refuse
-cast-refuse c =
-    let why = c .before .before .compiled .given in
-    omega (arith, place-fits _ _ (why .0 .0) (why .0 .1 .0) (ap valueOf (sym (why .1)) ∙ c .before .before .before .before .before .compile .ensures .0) (rw (c .before .before .before .before .before .before .before .part .ensures) (simp (length-take, length-drop) (omega arith))))
+cast-place : tie.Need-cast-place
+cast-place c =
+    let fits = place-fits _ (replicate 8192 0) _ _ (c .before .before .before .before .before .compile .ensures) (c .before .before .compiled .given .1) in
+    omega (arith, fits (rw (c .before .before .before .before .before .before .before .part .ensures) (simp (length-take, length-drop) (omega arith))))
 
 refuse-requires : tie.Need-refuse-requires
-refuse-requires c κs = search needs
+refuse-requires c κs =
+    refused-at _ (replicate 8192 0) _ _ (c .before .before .before .before .before .compile .ensures) (c .before .before .compiled .given .1) (c .number-of .ensures)
 
 enum-known-compiled-2 : tie.Need-enum-known-compiled-2
 enum-known-compiled-2 c = search needs
@@ -50,7 +50,8 @@ part-requires-2 : tie.Need-part-requires-2
 part-requires-2 c κs = search needs
 
 filter-records-requires : tie.Need-filter-records-requires
-filter-records-requires c κs = search needs
+filter-records-requires c κs =
+    lent _ (replicate 8192 0) _ _ (c .before .before .before .before .before .before .compile .ensures) (c .before .before .before .compiled2 .given .1) (c .part2 .ensures)
 
 returns : tie.Need-returns
 returns c = search needs
@@ -70,7 +71,7 @@ main-spec =
     compile-requires
     enum-known-compiled
     number-of-requires
-    cast-refuse
+    cast-place
     refuse-requires
     enum-known-compiled-2
     slice-aggregate-part-2

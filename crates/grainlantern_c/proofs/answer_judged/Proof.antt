@@ -1,7 +1,6 @@
 -- `grainlantern_c::answer_judged` meets its contract: an arm for each answer. Assumes nothing.
 use borrow.Author.Needs.{needs}
-use mathlib.Core.Path.{refl, _∙_}
-use Rattle.judge.specs.Judging.{valueOf}
+use Rattle.judge.specs.Functions.{valueOf}
 use Rattle.grainlantern_c.proofs.answer_judged.Statement.{statement}
 use Rattle.grainlantern_c.proofs.answer_judged.Tie as tie
 
@@ -31,15 +30,15 @@ answer-requires-2 c κs = search needs
 
 returns : tie.Need-returns
 unfolding valueOf
-returns c = rw (c .before .before .judged .given .1) (refl, refl)
+returns c = λ lines counting. rw (c .before .before .judged .given .1)
 
 returns-2 : tie.Need-returns-2
 unfolding valueOf
-returns-2 c = rw (c .before .before .before .judged2 .given .1) (c .answer .ensures)
+returns-2 c = λ lines counting. rw (c .before .before .before .judged2 .given .1, c .answer .ensures .0, c .answer .ensures .1)
 
 returns-3 : tie.Need-returns-3
 unfolding valueOf
-returns-3 c = rw (c .before .before .before .before .judged3 .given .1) (c .answer2 .ensures .0 ∙ c .before .number-of .ensures, c .answer2 .ensures .1)
+returns-3 c = λ lines counting. rw (c .before .before .before .before .judged3 .given .1, c .answer2 .ensures .0, c .before .number-of .ensures, c .answer2 .ensures .1)
 
 pub answer-judged-spec : {M : Type 1} → statement M
 answer-judged-spec =

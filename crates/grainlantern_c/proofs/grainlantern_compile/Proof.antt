@@ -1,10 +1,8 @@
 -- `grainlantern_c::grainlantern_compile` meets its contract: each arm by what `compile` answered. Assumes nothing.
-use mathlib.Core.Path.{_∙_}
+use mathlib.Core.Path.{ap}
 use borrow.Author.Needs.{needs}
-use denote.Ref.{now}
-use Rattle.filter.specs.Answering.{valueOf}
-use Rattle.grainlantern_c.specs.Programs.{compileLeft}
-use Rattle.grainlantern_c.proofs.Answers.{compiled-said}
+use Rattle.filter.specs.Functions.{compilingOf}
+use Rattle.grainlantern_c.specs.Programs.{compiledForC}
 use Rattle.grainlantern_c.proofs.grainlantern_compile.Statement.{statement}
 use Rattle.grainlantern_c.proofs.grainlantern_compile.Tie as tie
 
@@ -30,21 +28,19 @@ same-length : tie.Need-same-length
 same-length c = search needs
 
 returns : tie.Need-returns
-unfolding compileLeft valueOf
-returns c = let a = c .before .before .before .before .before .before .before .before .before .before .before .args in
-    let r = c .before .before .before .before .before .before .before .compile in
-    let x = compiled-said (now (a .text)) (now (a .program)) (c .before .before .before .compiled .given .1) (r .ensures .0) in
-    (c .answer .ensures .0 ∙ x .0, (c .answer .ensures .1 ∙ x .1, r .ensures .1))
+unfolding compilingOf
+returns c =
+    rw (c .answer .ensures .0, c .answer .ensures .1)
+    (ap compiledForC (rw (c .before .before .before .compiled .given .1) at (c .before .before .before .before .before .before .before .compile .ensures)))
 
 same-length-2 : tie.Need-same-length-2
 same-length-2 c = search needs
 
 returns-2 : tie.Need-returns-2
-unfolding compileLeft valueOf
-returns-2 c = let a = c .before .before .before .before .before .before .before .before .before .before .before .before .args in
-    let r = c .before .before .before .before .before .before .before .before .compile in
-    let x = compiled-said (now (a .text)) (now (a .program)) (c .before .before .before .before .compiled2 .given .1) (r .ensures .0) in
-    (c .answer2 .ensures .0 ∙ c .before .number-of .ensures ∙ x .0, (c .answer2 .ensures .1 ∙ x .1, r .ensures .1))
+unfolding compilingOf
+returns-2 c =
+    rw (c .answer2 .ensures .0, c .before .number-of .ensures, c .answer2 .ensures .1)
+    (ap compiledForC (rw (c .before .before .before .before .compiled2 .given .1) at (c .before .before .before .before .before .before .before .before .compile .ensures)))
 
 pub grainlantern-compile-spec : {M : Type 1} → statement M
 grainlantern-compile-spec =

@@ -1,8 +1,8 @@
 -- `grainlantern_c::grainlantern_judge` meets its contract: what `judge` answered, as numbers. Assumes nothing.
 use borrow.Author.Needs.{needs}
 use mathlib.Core.Path.{ap, _∙_}
-use Prim.Native.Nat.{ℕ}
-use Rattle.grainlantern_c.specs.Judgements.{valuesOf}
+use mathlib.Core.Option.{none}
+use Rattle.grainlantern_c.specs.Judgements.{judgedForC}
 use Rattle.grainlantern_c.proofs.grainlantern_judge.Statement.{statement}
 use Rattle.grainlantern_c.proofs.grainlantern_judge.Tie as tie
 
@@ -16,9 +16,7 @@ same-length : tie.Need-same-length
 same-length c = search needs
 
 returns : tie.Need-returns
-returns c = let judged = c .before .before .before .before .judge .ensures in
-    let answered = c .answer-judged .ensures in
-    (answered .0 ∙ ap (λ (x : ℕ × ℕ × ℕ). x .0) (judged .0), (answered .1 ∙ ap valuesOf (judged .0), judged .1))
+returns c = c .answer-judged .ensures _ none ∙ ap judgedForC (c .before .before .before .before .judge .ensures)
 
 pub grainlantern-judge-spec : {M : Type 1} → statement M
 grainlantern-judge-spec = tie.close (tie.spec judge-requires answer-judged-requires same-length returns)

@@ -2,7 +2,7 @@
 -- places and on what that answered. No borrow is opened: each `&mut` goes to its callee for good, at its own lifetime, share and name, and the callee's contract says its last value
 -- (`gave-slice`, `gave-ref`). A `&[u8]` is Copy: what the program and the record own is had twice, once for the call and once for the exit. Assumes nothing.
 use mathlib.Core.Path.{_≡_, refl, ap, _∙_}
-use mathlib.Core.Option.{some as counting}
+use mathlib.Core.Option.{Option, some as counting}
 use Prim.Native.Nat.{ℕ}
 use mathlib.Core.List.{[], _∷_, List}
 use lib.ListN.{length}
@@ -37,13 +37,11 @@ use denote.Triple.Clauses.{ensured, lasts}
 use denote.Triple.Entry.{onEntry}
 use denote.Triple.Spec.{Meets, tripleOf}
 use denote.Triple.Table.{entered, cited}
-use denote.Triple.Walked.{Stays, stay-none-slice, gave-slice, gave-ref, walkOf, goes-none-slice, goes-gave-slice, goes-gave-ref, Walks, ends-at, walked, walk-meets}
+use denote.Triple.Walked.{says, Stays, stay-none-slice, gave-slice, gave-ref, walkOf, goes-none-slice, goes-gave-slice, goes-gave-ref, Walks, ends-at, walked, walk-meets}
 use denote.Exit.{yes}
-use Rattle.judge.specs.Answers.{Outcome, linesAfter, tallyAfter}
-use Rattle.judge.specs.Judging.{judgeOf, valueOf, saidOf}
+use Rattle.judge.specs.Functions.{judgingOf, ourJudge}
 use Rattle.judge.specs.declared.Judged.{Judged}
 use Rattle.judge.specs.declared.Tally.{Tally}
-use Rattle.judge.proofs.Saying.{says-all}
 use Rattle.judge.proofs.Judged as J
 use Rattle.judge.proofs.Judged.Laws as J′
 use Rattle.judge.proofs.Tally as T
@@ -51,7 +49,7 @@ use Rattle.judge.proofs.judge_counted as judge
 use Rattle.judge.proofs.judge_counted.Symbol as judge-def
 use Rattle.judge.proofs.judge_counted.Symbol.{name as #judge·judge-counted}
 use Rattle.judge.proofs.judge_counted.Met as judge-thm
-use Rattle.grainlantern_c.specs.Judgements.{valuesOf, judgeNumber, judgeValue}
+use Rattle.grainlantern_c.specs.Judgements.{judgedForC}
 use Rattle.grainlantern_c.proofs.answer_judged as answer
 use Rattle.grainlantern_c.proofs.answer_judged.Symbol as answer-def
 use Rattle.grainlantern_c.proofs.answer_judged.Symbol.{name as #grainlantern-c·answer-judged}
@@ -152,17 +150,8 @@ module _ {M : Type 1} (𝓤 : URA M) (H : Heap 𝓤) (A : Atoms 𝓤) (W : Given
       frame ! $ move ! (3 ∷ 2 ∷ 1 ∷ 0 ∷ []) $ done !
 
   -- what it ensures, at an answer j, a last list l and a last tally h
-  abbrev outcome : Outcome
-  outcome = judgeOf (now x) (now y) (length (now z)) (counting (now t))
-
-  abbrev Said : Judged → Type 0
-  Said j = valueOf j ≡ saidOf outcome
-
-  abbrev Counts : Tally → Type 0
-  Counts h = h ≡ tallyAfter outcome (now t)
-
-  abbrev Writes : List ℕ → Type 0
-  Writes l = l ≡ linesAfter outcome (now z)
+  abbrev Judges : Judged → List ℕ → Tally → Type 0
+  Judges j l h = judgingOf j l (counting h) ≡ ourJudge (now x) (now y) (now z) (counting (now t))
 
   -- the call of `answer_judged` on an answer j with the machine value u; and what it ensures, at a number n and last places m
   abbrev to-answer : Judged → Val → Answer 𝓤 H A at-mem run .Ghost
@@ -173,14 +162,14 @@ module _ {M : Type 1} (𝓤 : URA M) (H : Heap 𝓤) (A : Atoms 𝓤) (W : Given
       qed W (‵ Value ∷ last-token ∷ ‵ (J.the-row .own j (u ∷ [])) ∷ []) ∵ nothing ! $ move ! (3 ∷ 0 ∷ []) $ fjoin ! $ move ! (1 ∷ 0 ∷ []) $ fjoin ! $ move ! (1 ∷ 0 ∷ []) $ join ! $ frame ! $ done !
 
   abbrev Answers : Judged → ℕ → List ℕ → Type 0
-  Answers j n m = (n ≡ valueOf j .0) × (m ≡ valuesOf (valueOf j))
+  Answers j n m = (l : List ℕ) (o : Option Tally) → (n, m, l, o) ≡ judgedForC (judgingOf j l o)
 
-  exits : (j : Judged) (l : List ℕ) (h : Tally) (n : ℕ) (m : List ℕ) (w : Val) → Said j → Counts h → Writes l → Answers j n m → length l ≡ length (now z)
+  exits : (j : Judged) (l : List ℕ) (h : Tally) (n : ℕ) (m : List ℕ) (w : Val) → Judges j l h → Answers j n m → length l ≡ length (now z)
       → ent 𝓤 (⋆ 𝓤 H A (first-tokens ∷ last-token ∷ ‵ Program ∷ ‵ Bytes ∷ ‵ (finally u8 (z .name) l) ∷ ‵ (fres (t .name) (T.the-row .coded .code h)) ∷ ‵ (fres (v .name) (Four .coded .code m)) ∷ ‵ (u32 .own n (w ∷ [])) ∷ [])) (Post w)
-  exits j l h n m w said counts writes answers same =
+  exits j l h n m w judges answers same =
       qed W (first-tokens ∷ last-token ∷ ‵ Program ∷ ‵ Bytes ∷ ‵ (finally u8 (z .name) l) ∷ ‵ (fres (t .name) (T.the-row .coded .code h)) ∷ ‵ (fres (v .name) (Four .coded .code m)) ∷ ‵ (u32 .own n (w ∷ [])) ∷ []) ∵
       suffices ! _ (ends-at 𝓤 H A f.ended stayed (f.clauses 𝓤 H A at-mem run) W (((κ₀, (κ₁, (κ₂, (κ₃, (κ₄, tt))))), (q₀, (q₁, (q₂, (q₃, (q₄, tt))))), tt, a, vals), tt) w n (tt, (tt, (l, (h, (m, tt))))) (tt, (tt, (same, (tt, (tt, tt)))))) $
-      says-all ! ((n ≡ judgeNumber outcome) ∷ (m ≡ judgeValue outcome) ∷ Writes l ∷ Counts h ∷ []) (answers .0 ∙ ap (λ (s : ℕ × ℕ × ℕ). s .0) said, (answers .1 ∙ ap valuesOf said, (writes, counts))) $
+      says ! (answers l (counting h) ∙ ap judgedForC judges) $
       split ! $ move ! (1 ∷ []) $ split ! $ move ! (1 ∷ []) $ split ! $ move ! (1 ∷ []) $ split ! $ move ! (0 ∷ 5 ∷ []) $ join ! $ move ! (2 ∷ 0 ∷ []) $ join ! $ move ! (2 ∷ 0 ∷ []) $ join ! $ move ! (2 ∷ 0 ∷ []) $ join ! $ frame ! $
       -- [true; program; bytes; the last lines; the last tally; the last places; the number]
       move ! (5 ∷ 0 ∷ []) $ fjoin ! $ move ! (4 ∷ 0 ∷ []) $ fjoin ! $ move ! (3 ∷ 0 ∷ []) $ fjoin ! $ move ! (2 ∷ 0 ∷ []) $ fjoin ! $ move ! (1 ∷ 0 ∷ []) $ fjoin ! $ done !
@@ -201,8 +190,8 @@ module _ {M : Type 1} (𝓤 : URA M) (H : Heap 𝓤) (A : Atoms 𝓤) (W : Given
         move ! (22 ∷ []) $ use1 W (raw (Judge 𝓤 H A at-mem run .pre to-judge) ⊛ (‵ Program ⊛ ‵ Bytes ⊛ ‵ Value ⊛ last-token)) goes-judge $ split ! $
         calls-at ! fm (Judge 𝓤 H A at-mem run) known-judge to-judge (and-then ! (load ! (from ! (stop !)) (look ! 20 refl)) (and-then ! (load ! (from ! (stop !)) (look ! 18 refl)) (and-then ! (load ! (from ! (stop !)) (look ! 6 refl)) (and-then ! (load ! (from ! (stop !)) (look ! 4 refl)) (no-more !))))) (λ u.
         use1 W (later (some (λ (j : Judged). (first-tokens ⊛ ‵ (J.the-row .own j (u ∷ []))) ⊛ raw (ensured 𝓤 H A judge.ended (judge.clauses 𝓤 H A at-mem run) (κ₀, (κ₁, (κ₂, (κ₃, tt)))) passed tt j)))) (id⊢ 𝓤 _) $ await ! tt $ pick ! (λ j.
-        split ! $ move ! (1 ∷ []) $ use1 W (some (λ (ws : Unit {0} × (Unit {0} × (List ℕ × (Tally × Unit {0})))). ‵ (lasts judge.ended (κ₀, (κ₁, (κ₂, (κ₃, tt)))) passed ws) ⊛ raw (fact 𝓤 (Said j)) ⊛ raw (fact 𝓤 (Counts (ws .1 .1 .1 .0))) ⊛ raw (fact 𝓤 (Writes (ws .1 .1 .0))))) (id⊢ 𝓤 _) $ pick ! (λ ws.
-        split ! $ move ! (1 ∷ []) $ split ! $ heard ! (Said j) (λ said. split ! $ heard ! (Counts (ws .1 .1 .1 .0)) (λ counts. heard ! (Writes (ws .1 .1 .0)) (λ writes.
+        split ! $ move ! (1 ∷ []) $ use1 W (some (λ (ws : Unit {0} × (Unit {0} × (List ℕ × (Tally × Unit {0})))). ‵ (lasts judge.ended (κ₀, (κ₁, (κ₂, (κ₃, tt)))) passed ws) ⊛ raw (fact 𝓤 (Judges j (ws .1 .1 .0) (ws .1 .1 .1 .0))))) (id⊢ 𝓤 _) $ pick ! (λ ws.
+        split ! $ move ! (1 ∷ []) $ heard ! (Judges j (ws .1 .1 .0) (ws .1 .1 .1 .0)) (λ judges.
         fsplit ! $ move ! (1 ∷ []) $ fsplit ! $ move ! (1 ∷ []) $ fsplit ! $ fsplit ! $ move ! (1 ∷ []) $ feqL ! (λ same. move ! (1 ∷ []) $ fsplit ! $
         -- [the last tally; true; the last lines; true; true; the tokens and the answer; what is kept; room for _10; …]
         move ! (5 ∷ []) $ split ! $ move ! (1 ∷ []) $ peeks ! J.the-row (Is J.the-row) (shows 𝓤 H A J.the-row) j (u ∷ []) (λ is. land ! (from ! (stop !)) (init ! 16 refl (EL.lawful J.the-type J′.the-laws 𝓤 H A W tt .typed j _ is .0)) $
@@ -219,7 +208,7 @@ module _ {M : Type 1} (𝓤 : URA M) (H : Heap 𝓤) (A : Atoms 𝓤) (W : Given
         returns ! (look ! 32 refl) $ forget ! 12 refl $ forget ! 14 refl $ forget ! 16 refl $ forget ! 18 refl $ forget ! 20 refl $ forget ! 22 refl $ forget ! 24 refl $ forget ! 26 refl $ forget ! 28 refl $ forget ! 30 refl $ forget ! 32 refl $
         move ! (32 ∷ 33 ∷ []) $ free1 ! $ move ! (30 ∷ 31 ∷ []) $ free1 ! $ move ! (28 ∷ 29 ∷ []) $ free1 ! $ move ! (26 ∷ 27 ∷ []) $ free1 ! $ move ! (24 ∷ 25 ∷ []) $ free1 ! $ move ! (22 ∷ 23 ∷ []) $ free1 ! $
         move ! (20 ∷ 21 ∷ []) $ free1 ! $ move ! (18 ∷ 19 ∷ []) $ free1 ! $ move ! (16 ∷ 17 ∷ []) $ free1 ! $ move ! (14 ∷ 15 ∷ []) $ free1 ! $ move ! (12 ∷ 13 ∷ []) $ free1 ! $ free0 ! $
-        keep ! (6 ∷ 1 ∷ 5 ∷ 4 ∷ 9 ∷ 7 ∷ 2 ∷ 0 ∷ []) $ by ! (exits j (ws .1 .1 .0) (ws .1 .1 .1 .0) n (ms .0) w said counts writes answers same)))))))))))))))))))))))))
+        keep ! (6 ∷ 1 ∷ 5 ∷ 4 ∷ 9 ∷ 7 ∷ 2 ∷ 0 ∷ []) $ by ! (exits j (ws .1 .1 .0) (ws .1 .1 .1 .0) n (ms .0) w judges answers same)))))))))))))))))))))))
 
 module _ {M : Type 1} (𝓤 : URA M) (H : Heap 𝓤) (A : Atoms 𝓤) (W : Given 𝓤 H A) (at-mem : Memory → SProp 𝓤) (run : Routine → Fun 𝓤) where
   judge-counted-walks : (C : Calls 𝓤 H) (Λ : Loops 𝓤 H) → FmC 𝓤 H (W .laws) C → Triple 𝓤 (C #judge·judge-counted) (Judge 𝓤 H A at-mem run) → Triple 𝓤 (C #grainlantern-c·answer-judged) (Answer 𝓤 H A at-mem run)

@@ -41,14 +41,12 @@ use denote.Triple.Clauses.{ensured, lasts}
 use denote.Triple.Entry.{onEntry}
 use denote.Triple.Spec.{Meets, tripleOf}
 use denote.Triple.Table.{entered, cited}
-use denote.Triple.Walked.{Stays, stay-none-slice, gave-slice, stay-ref, walkOf, goes-none-slice, goes-gave-slice, goes-ref, Walks, ends-at, walked, walk-meets}
+use denote.Triple.Walked.{says, Stays, stay-none-slice, gave-slice, stay-ref, walkOf, goes-none-slice, goes-gave-slice, goes-ref, Walks, ends-at, walked, walk-meets}
 use denote.Exit.{yes}
-use Rattle.judge.specs.Answers.{Outcome, linesAfter, tallyAfter}
-use Rattle.judge.specs.Judging.{judgeOf, valueOf, saidOf}
+use Rattle.judge.specs.Functions.{judgingOf, ourJudge}
 use Rattle.judge.specs.declared.Counted.{Counted}
 use Rattle.judge.specs.declared.Tally.{Tally}
 use Rattle.judge.proofs.Lent.{tally-val, IsTally, tally-typed, opens-tally, closes-tally, twice, freed}
-use Rattle.judge.proofs.Saying.{says-all}
 use Rattle.judge.proofs.Counted as B
 use Rattle.judge.proofs.Counted.Laws as B′
 use Rattle.judge.proofs.Judged as J
@@ -137,24 +135,15 @@ module _ {M : Type 1} (𝓤 : URA M) (H : Heap 𝓤) (A : Atoms 𝓤) (W : Given
   goes = qed W (tokens ∷ ‵ Passed ∷ []) ∵ join ! $ frame ! $ done !
 
   -- what it ensures, at a result r and a last list l
-  abbrev outcome : Outcome
-  outcome = judgeOf (now x) (now y) (length (now z)) (counting (now t))
+  abbrev Judges : Counted → List ℕ → Type 0
+  Judges r l = judgingOf (r .judged) l (counting (r .tally)) ≡ ourJudge (now x) (now y) (now z) (counting (now t))
 
-  abbrev Said : Counted → Type 0
-  Said r = valueOf (r .judged) ≡ saidOf outcome
-
-  abbrev Counts : Counted → Type 0
-  Counts r = r .tally ≡ tallyAfter outcome (now t)
-
-  abbrev Writes : List ℕ → Type 0
-  Writes l = l ≡ linesAfter outcome (now z)
-
-  exits : (r : Counted) (l : List ℕ) → Is J.the-row (r .judged) (judged-val r ∷ []) → Said r → Counts r → Writes l → length l ≡ length (now z)
+  exits : (r : Counted) (l : List ℕ) → Is J.the-row (r .judged) (judged-val r ∷ []) → Judges r l → length l ≡ length (now z)
       → ent 𝓤 (⋆ 𝓤 H A (tokens ∷ ‵ (flft κ‴ q‴) ∷ ‵ Program ∷ ‵ Bytes ∷ ‵ (finally u8 (z .name) l) ∷ ‵ (fobs (t .name) (T.the-row .coded .code (r .tally))) ∷ ‵ (fbor κ‴ (Body (mem T.the-row) (t .ptr .0) (t .ptr .1) (t .name))) ∷ [])) (Post (judged-val r))
-  exits r l is e e′ e″ same =
+  exits r l is e same =
       qed W (tokens ∷ ‵ (flft κ‴ q‴) ∷ ‵ Program ∷ ‵ Bytes ∷ ‵ (finally u8 (z .name) l) ∷ ‵ (fobs (t .name) (T.the-row .coded .code (r .tally))) ∷ ‵ (fbor κ‴ (Body (mem T.the-row) (t .ptr .0) (t .ptr .1) (t .name))) ∷ []) ∵
       suffices ! _ (ends-at 𝓤 H A f.ended stayed (f.clauses 𝓤 H A at-mem run) W (((κ, (κ′, (κ″, (κ‴, tt)))), (q, (q′, (q″, (q‴, tt)))), tt, a, vals), tt) (judged-val r) (r .judged) (tt, (tt, (l, (r .tally, tt)))) (tt, (tt, (same, (tt, tt))))) $
-      says-all ! (Said r ∷ Counts r ∷ Writes l ∷ []) (e, (e′, e″)) $
+      says ! e $
       split ! $ move ! (1 ∷ []) $ split ! $ move ! (1 ∷ []) $ split ! $ move ! (4 ∷ 1 ∷ []) $ join ! $ move ! (1 ∷ 0 ∷ []) $ join ! $ move ! (1 ∷ 0 ∷ []) $ join ! $ move ! (1 ∷ 0 ∷ []) $ join ! $ frame ! $
       -- [program; bytes; the last lines; obs; the tally's borrow]
       move ! (3 ∷ 4 ∷ []) $ feqI ! (List Val) (tv ∷ []) (tv ∷ []) refl $ fjoin3 ! $ nothing ! $ move ! (1 ∷ 0 ∷ []) $ fjoin ! $ move ! (3 ∷ 0 ∷ []) $ fjoin ! $ move ! (2 ∷ 0 ∷ []) $ fjoin ! $ move ! (1 ∷ 0 ∷ []) $ fjoin ! $
@@ -190,8 +179,8 @@ module _ {M : Type 1} (𝓤 : URA M) (H : Heap 𝓤) (A : Atoms 𝓤) (W : Given
         -- [what it asks; the tally's cell; the open borrow; obs; auth; bytes; program; _8; …; _7; …; _6; …; _5; …; _4; …; _3; …; _2; …; _1; …; room for _0; …]
         calls-at ! fm (With 𝓤 H A at-mem run) known to (and-then ! (load ! (from ! (stop !)) (look ! 21 refl)) (and-then ! (load ! (from ! (stop !)) (look ! 19 refl)) (and-then ! (load ! (from ! (stop !)) (look ! 9 refl)) (and-then ! (load ! (from ! (stop !)) (look ! 7 refl)) (no-more !))))) (λ w.
         use1 W (later (some (λ (r : Counted). (tokens ⊛ ‵ (B.the-row .own r (w ∷ []))) ⊛ raw (ensured 𝓤 H A with.ended (with.clauses 𝓤 H A at-mem run) (κ, (κ′, (κ″, tt))) passed tt r)))) (id⊢ 𝓤 _) $ await ! tt $ pick ! (λ r.
-        split ! $ move ! (1 ∷ []) $ use1 W (some (λ (ws : Unit {0} × (Unit {0} × (List ℕ × (Unit {0} × Unit {0})))). ‵ (lasts with.ended (κ, (κ′, (κ″, tt))) passed ws) ⊛ raw (fact 𝓤 (Said r)) ⊛ raw (fact 𝓤 (Counts r)) ⊛ raw (fact 𝓤 (Writes (ws .1 .1 .0))))) (id⊢ 𝓤 _) $ pick ! (λ ws.
-        split ! $ move ! (1 ∷ []) $ split ! $ heard ! (Said r) (λ e. split ! $ heard ! (Counts r) (λ e′. heard ! (Writes (ws .1 .1 .0)) (λ e″.
+        split ! $ move ! (1 ∷ []) $ use1 W (some (λ (ws : Unit {0} × (Unit {0} × (List ℕ × (Unit {0} × Unit {0})))). ‵ (lasts with.ended (κ, (κ′, (κ″, tt))) passed ws) ⊛ raw (fact 𝓤 (Judges r (ws .1 .1 .0))))) (id⊢ 𝓤 _) $ pick ! (λ ws.
+        split ! $ move ! (1 ∷ []) $ heard ! (Judges r (ws .1 .1 .0)) (λ e.
         fsplit ! $ move ! (1 ∷ []) $ fsplit ! $ move ! (1 ∷ []) $ fsplit ! $ fsplit ! $ move ! (1 ∷ []) $ feqL ! (λ same.
         -- [the last lines; true; true; true; the tokens and the result; the tally's cell; the open borrow; obs; auth; bytes; program; _8; …]
         move ! (4 ∷ []) $ split ! $ move ! (1 ∷ []) $ peeks ! B.the-row (Is B.the-row) (shows 𝓤 H A B.the-row) r (w ∷ []) (λ is.
@@ -203,7 +192,7 @@ module _ {M : Type 1} (𝓤 : URA M) (H : Heap 𝓤) (A : Atoms 𝓤) (W : Given
         drop ! $ move ! (5 ∷ 6 ∷ 7 ∷ 8 ∷ []) $ closes-tally ! tt (r .tally) (t .ptr .0) (t .ptr .1) (is-tally r w is) $
         -- [obs; the tally's borrow; its token; the slices' tokens; the last lines; true; true; true; bytes; program; _8; …; _7; …; _6; …; _5; …; _4; …; _3; …; _2; …; _1; …; _0; …]
         returns ! (look ! 26 refl) $ freed ! 26 refl refl $ freed ! 24 refl refl $ freed ! 22 refl refl $ freed ! 20 refl refl $ freed ! 18 refl refl $ freed ! 16 refl refl $ freed ! 14 refl refl $ freed ! 12 refl refl $ freed ! 10 refl refl $ free0 ! $
-        keep ! (3 ∷ 2 ∷ 9 ∷ 8 ∷ 4 ∷ 0 ∷ 1 ∷ []) $ by ! (exits r (ws .1 .1 .0) (is-judged r w is) e e′ e″ same)))))))))))))))))))
+        keep ! (3 ∷ 2 ∷ 9 ∷ 8 ∷ 4 ∷ 0 ∷ 1 ∷ []) $ by ! (exits r (ws .1 .1 .0) (is-judged r w is) e same)))))))))))))))))
 
 module _ {M : Type 1} (𝓤 : URA M) (H : Heap 𝓤) (A : Atoms 𝓤) (W : Given 𝓤 H A) (at-mem : Memory → SProp 𝓤) (run : Routine → Fun 𝓤) where
   judge-counted-walks : (C : Calls 𝓤 H) (Λ : Loops 𝓤 H) → FmC 𝓤 H (W .laws) C → Triple 𝓤 (C #judge·judge-with) (With 𝓤 H A at-mem run) → Walks 𝓤 H A f.ended stayed (WpFn 𝓤 H C Λ code.function) (f.clauses 𝓤 H A at-mem run)

@@ -1,5 +1,4 @@
 -- `judge::judge_valid` meets its contract: an outcome for each return. Assumes nothing.
-use mathlib.Core.Path.{sym, _∙_}
 use borrow.Author.Needs.{needs}
 use borrow.Author.Tests.{not-true, not-false}
 use denote.Ref.{now}
@@ -22,8 +21,8 @@ unread-requires c κs = search needs
 returns : tie.Need-returns
 returns c = let a = c .before .before .before .before .before .before .before .args in
     let told = c .before .enum-told .given in
-    rw (c .unread .ensures (told .0 .0) (told .1))
-    (comes-unread (now (a .program)) (now (a .bytes)) (now (a .lines)) _ (told .0 .0) (sym (c .before .before .before .decode .ensures) ∙ told .1))
+    rw (c .unread .ensures, told .1)
+    (comes-unread (now (a .program)) (now (a .bytes)) (now (a .lines)) _ (c .before .before .before .decode .ensures) (told .0 .0) (told .1))
 
 execute-requires : tie.Need-execute-requires
 execute-requires c κs = search needs
@@ -32,7 +31,7 @@ returns-2 : tie.Need-returns-2
 returns-2 c = let a = c .before .before .before .before .before .before .before .before .before .before .args in
     let told = c .before .before .before .before .decoded .given in
     let ran = c .before .before .execute in
-    comes-dropped (now (a .program)) (now (a .bytes)) (now (a .lines)) _ (told .0 .0) (sym (c .before .before .before .before .before .before .decode .ensures) ∙ told .1) _
+    comes-dropped (now (a .program)) (now (a .bytes)) (now (a .lines)) _ (c .before .before .before .before .before .before .decode .ensures) (told .0 .0) (told .1) _
     (rw (not-true (ran .result .flag) (c .if1 .taken)) at (ran .ensures))
 
 write-requires : tie.Need-write-requires
@@ -52,9 +51,9 @@ returns-3 c = let a = c .before .before .before .before .before .before .before 
     let told = c .before .before .before .before .before .before .before .before .before .before .decoded .given in
     let ran = c .before .before .before .before .before .before .before .before .execute in
     let wrote = c .before .before .before .before .write in
-    comes-short (now (a .program)) (now (a .bytes)) (now (a .lines)) _ (told .0 .0) (sym (c .before .before .before .before .before .before .before .before .before .before .before .before .decode .ensures) ∙ told .1) _
+    comes-short (now (a .program)) (now (a .bytes)) (now (a .lines)) _ (c .before .before .before .before .before .before .before .before .before .before .before .before .decode .ensures) (told .0 .0) (told .1) _
     (rw (not-false (ran .result .flag) (c .before .before .before .before .before .before .if1 .left)) at (ran .ensures))
-    _ (wrote .ensures .1) (sym (c .enum-told2 .given .1) ∙ wrote .ensures .0)
+    _ (rw (c .enum-told2 .given .1) at (wrote .ensures))
 
 same-length-2 : tie.Need-same-length-2
 same-length-2 c = search needs
@@ -64,9 +63,9 @@ returns-4 c = let a = c .before .before .before .before .before .before .before 
     let told = c .before .before .before .before .before .before .before .before .before .before .before .decoded .given in
     let ran = c .before .before .before .before .before .before .before .before .before .execute in
     let wrote = c .before .before .before .before .before .write in
-    comes-kept (now (a .program)) (now (a .bytes)) (now (a .lines)) _ (told .0 .0) (sym (c .before .before .before .before .before .before .before .before .before .before .before .before .before .decode .ensures) ∙ told .1) _
+    comes-kept (now (a .program)) (now (a .bytes)) (now (a .lines)) _ (c .before .before .before .before .before .before .before .before .before .before .before .before .before .decode .ensures) (told .0 .0) (told .1) _
     (rw (not-false (ran .result .flag) (c .before .before .before .before .before .before .before .if1 .left)) at (ran .ensures))
-    _ (wrote .ensures .1) _ (sym (c .before .wrote .given .1) ∙ wrote .ensures .0)
+    _ _ (rw (c .before .wrote .given .1) at (wrote .ensures))
 
 pub judge-valid-spec : {M : Type 1} → statement M
 judge-valid-spec =

@@ -1,6 +1,6 @@
 -- `judge::number_of` meets its contract: a refusal each. Assumes nothing.
 use borrow.Author.Needs.{needs}
-use Rattle.judge.specs.Judging.{numberOf}
+use Rattle.judge.specs.Answers.{numberOf}
 use Rattle.judge.proofs.number_of.Statement.{statement}
 use Rattle.judge.proofs.number_of.Tie as tie
 

@@ -10,10 +10,10 @@ enum-told : tie.Need-enum-told
 enum-told c = search needs
 
 returns : tie.Need-returns
-returns c = λ why e. cc (c .before .decoded .given .1)
+returns c = rw (c .before .decoded .given .1)
 
 returns-2 : tie.Need-returns-2
-returns-2 c = λ why e. cc (c .enum-told .given .1)
+returns-2 c = rw (c .enum-told .given .1)
 
 pub unread-spec : {M : Type 1} → statement M
 unread-spec = tie.close (tie.spec enum-known-decoded enum-told returns returns-2)

@@ -1,6 +1,7 @@
 -- `message::decode` meets its contract: a test each. Assumes nothing.
+use mathlib.Core.Path.{ap}
 use borrow.Author.Needs.{needs}
-use Rattle.message.specs.Decode.{decodeOf}
+use Rattle.message.specs.Decode.{decodeOf, decodingOf}
 use Rattle.message.proofs.decode.Statement.{statement}
 use Rattle.message.proofs.decode.Tie as tie
 
@@ -33,7 +34,7 @@ returns-3 c =
       ← c .before .before .before .wrong-kind .ensures,
       c .before .before .if2 .left,
       ← c .before .width-of .ensures,
-    ) (c .message .ensures)
+    ) (ap decodingOf (c .message .ensures))
 
 pub decode-spec : {M : Type 1} → statement M
 decode-spec =

@@ -37,8 +37,7 @@ same-length c = search needs
 returns : tie.Need-returns
 returns c =
     let step = sym (c .before .before .before .before .before .before .before .before .before .step-at .ensures) ∙ c .before .before .before .before .before .before .before .step .given .1 in
-    let j = c .before .before .before .judge-with .ensures in
-    rw (step, ← c .before .before .before .before .before .record-of .ensures, j .0, j .1 .0, j .1 .1)
+    rw (step, ← c .before .before .before .before .before .record-of .ensures, c .before .before .before .judge-with .ensures)
 
 returns-2 : tie.Need-returns-2
 returns-2 c = rw (sym (c .before .before .step-at .ensures) ∙ c .enum-told .given .1)

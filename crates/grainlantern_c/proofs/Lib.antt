@@ -1,2 +1,0 @@
--- Laws of the functions for C. Assumes nothing.
-pub mod Answers
