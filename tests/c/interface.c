@@ -1,5 +1,6 @@
 /*
- * What include/grainlantern.h says of pointers, sizes, `value` and threads, tried out. Built as C99 and as C++ (rust/cases/tests/c_example.rs).
+ * What include/grainlantern.h says of pointers, sizes, limits, numbers, `value` and threads, tried out: each limit at its border, each number by an
+ * input that has it. What is expected is the paper's. Built as C99 and as C++ (rust/cases/tests/c_example.rs).
  * Tells each fact that doesn't hold, and exits with 1 if there is one.
  */
 #define _POSIX_C_SOURCE 200809L
@@ -70,6 +71,63 @@ static void compiling(void)
     program_len = (size_t)value[0];
 }
 
+/* Compiles a text into all the room that a program needs. */
+static int text_says(const char *filter, size_t filter_len, uint32_t wanted, uint64_t first)
+{
+    static uint8_t room[GRAINLANTERN_PROGRAM_ROOM];
+    uint64_t value[4];
+
+    return says(grainlantern_compile((const uint8_t *)filter, filter_len, room, sizeof room, fresh(value)), wanted, value, first, 0);
+}
+
+/* Writes a pattern of so many items, which makes one record more, and returns its bytes. */
+static size_t pattern(char *filter, size_t items)
+{
+    size_t at = 9;
+
+    memcpy(filter, "-aspath '", at);
+    for (; items > 0; items--) {
+        filter[at++] = '.';
+        filter[at++] = ' ';
+    }
+    filter[at++] = '\'';
+    return at;
+}
+
+static void limits_of_texts(void)
+{
+    static char filter[GRAINLANTERN_TEXT_LIMIT + 1];
+    static uint8_t room[GRAINLANTERN_PROGRAM_ROOM];
+    uint64_t value[4];
+    size_t len;
+
+    memset(filter, ' ', sizeof filter);
+    memcpy(filter, "-loops", 6);
+    HOLDS(text_says(filter, GRAINLANTERN_TEXT_LIMIT, GRAINLANTERN_COMPILED, 16));
+    HOLDS(text_says(filter, GRAINLANTERN_TEXT_LIMIT + 1, GRAINLANTERN_LONG_TEXT, 0));
+    filter[6] = 0x7E;
+    HOLDS(text_says(filter, GRAINLANTERN_TEXT_LIMIT, GRAINLANTERN_WRONG_TOKEN, 0));
+    filter[6] = 0x7F;
+    HOLDS(text_says(filter, GRAINLANTERN_TEXT_LIMIT, GRAINLANTERN_FORBIDDEN_BYTE, 6));
+    HOLDS(text_says("-aspath '5'", 11, GRAINLANTERN_COMPILED, 32));
+    HOLDS(text_says("-aspath '5'", 10, GRAINLANTERN_OPEN_QUOTE, 8));
+    HOLDS(text_says("-loops )", 7, GRAINLANTERN_COMPILED, 16));
+    HOLDS(text_says("-loops )", 8, GRAINLANTERN_WRONG_TOKEN, 7));
+    HOLDS(text_says("-type 255", 9, GRAINLANTERN_COMPILED, 16));
+    HOLDS(text_says("-type 256", 9, GRAINLANTERN_WRONG_OPERAND, 6));
+
+    memset(filter, '!', 33);
+    memcpy(filter + 33, "-loops", 6);
+    HOLDS(text_says(filter + 1, 32 + 6, GRAINLANTERN_COMPILED, 16 * 33));
+    HOLDS(text_says(filter, 33 + 6, GRAINLANTERN_DEEP_LEVEL, 32));
+
+    len = pattern(filter, 512);
+    HOLDS(text_says(filter, len, GRAINLANTERN_HEAVY_TEXT, 0));
+    len = pattern(filter, 511);
+    HOLDS(text_says(filter, len, GRAINLANTERN_COMPILED, GRAINLANTERN_PROGRAM_ROOM));
+    HOLDS(says(grainlantern_compile((const uint8_t *)filter, len, room, sizeof room - 1, fresh(value)), GRAINLANTERN_SHORT_PROGRAM, value, 0, 0));
+}
+
 static void judging(void)
 {
     static uint8_t lines[GRAINLANTERN_LINE_ROOM];
@@ -94,6 +152,109 @@ static void judging(void)
                GRAINLANTERN_KEPT, value, 1, 71));
     HOLDS(memcmp(lines, line, 71) == 0 && untouched(lines, 71, sizeof lines));
     HOLDS(tally.seen == 2 && tally.kept == 1 && tally.dropped == 0 && tally.refused == 1);
+}
+
+/* Judges a record with all the room that lines need. */
+static int record_says(const uint8_t *bytes, size_t bytes_len, uint32_t wanted, uint64_t first, uint64_t second)
+{
+    static uint8_t lines[GRAINLANTERN_LINE_ROOM];
+    uint64_t value[4];
+
+    return says(grainlantern_judge(program, program_len, bytes, bytes_len, lines, sizeof lines, fresh(value)), wanted, value, first, second);
+}
+
+/* The answer where a byte of record R is another one. */
+static int slip_says(size_t at, uint8_t byte, uint32_t wanted)
+{
+    uint8_t slipped[sizeof record];
+
+    memcpy(slipped, record, sizeof record);
+    slipped[at] = byte;
+    return record_says(slipped, sizeof slipped, wanted, 0, 0);
+}
+
+static void numbers_of_records(void)
+{
+    uint8_t other[16];
+    uint64_t value[4];
+
+    HOLDS(slip_says(11, 0x46, GRAINLANTERN_WRONG_SIZE));
+    HOLDS(slip_says(11, 0x48, GRAINLANTERN_WRONG_SIZE));
+    HOLDS(slip_says(5, 17, GRAINLANTERN_WRONG_KIND));
+    HOLDS(slip_says(7, 3, GRAINLANTERN_WRONG_KIND));
+    HOLDS(slip_says(23, 2, GRAINLANTERN_WRONG_PEER));
+    HOLDS(slip_says(47, 0xFE, GRAINLANTERN_WRONG_FRAME));
+    HOLDS(slip_says(49, 0x34, GRAINLANTERN_WRONG_FRAME));
+    /* the attributes up to the end of the record, and a byte further */
+    HOLDS(slip_says(54, 28, GRAINLANTERN_WRONG_ATTRIBUTES));
+    HOLDS(slip_says(54, 29, GRAINLANTERN_WRONG_SECTIONS));
+    /* ORIGIN twice */
+    HOLDS(slip_says(73, 1, GRAINLANTERN_WRONG_ATTRIBUTES));
+    HOLDS(slip_says(58, 3, GRAINLANTERN_WRONG_BODY));
+    HOLDS(slip_says(79, 33, GRAINLANTERN_WRONG_PREFIX));
+    HOLDS(record_says(record, sizeof record, GRAINLANTERN_KEPT, 1, 71));
+    HOLDS(says(grainlantern_compile((const uint8_t *)"-peer 2428", 10, other, sizeof other, fresh(value)), GRAINLANTERN_COMPILED, value, 16, 0));
+    HOLDS(says(grainlantern_judge(other, sizeof other, record, sizeof record, NULL, 0, fresh(value)), GRAINLANTERN_DROPPED, value, 1, 0));
+}
+
+static void limits_of_records(void)
+{
+    static uint8_t bytes[GRAINLANTERN_RECORD_LIMIT + 1];
+    const size_t rest = GRAINLANTERN_RECORD_LIMIT - GRAINLANTERN_HEADER_SIZE;
+    uint64_t value[4];
+
+    /* no record of type 16 is readable at the limit: its message is over 4,096 bytes */
+    memcpy(bytes, record, sizeof record);
+    bytes[10] = (uint8_t)(rest >> 8);
+    bytes[11] = (uint8_t)rest;
+    HOLDS(record_says(bytes, GRAINLANTERN_RECORD_LIMIT, GRAINLANTERN_WRONG_FRAME, 0, 0));
+    bytes[11]++;
+    HOLDS(record_says(bytes, GRAINLANTERN_RECORD_LIMIT + 1, GRAINLANTERN_WRONG_SIZE, 0, 0));
+    memset(bytes, 0, GRAINLANTERN_HEADER_SIZE);
+    HOLDS(record_says(bytes, GRAINLANTERN_HEADER_SIZE - 1, GRAINLANTERN_WRONG_SIZE, 0, 0));
+    HOLDS(record_says(bytes, GRAINLANTERN_HEADER_SIZE, GRAINLANTERN_WRONG_KIND, 0, 0));
+    HOLDS(says(grainlantern_step(bytes, GRAINLANTERN_HEADER_SIZE - 1, 0, fresh(value)), GRAINLANTERN_CUT, value, GRAINLANTERN_HEADER_SIZE - 1, 0));
+    HOLDS(says(grainlantern_step(bytes, GRAINLANTERN_HEADER_SIZE, 0, fresh(value)), GRAINLANTERN_RECORD, value, GRAINLANTERN_HEADER_SIZE, 0));
+}
+
+/* A message of 4,096 bytes that announces 0.0.0.0/0 in each byte that it can: no record has a longer line. */
+static void room_of_lines(void)
+{
+    const size_t prefixes = 4096 - 19 - 4;
+    const size_t line_len = 2 + 10 * prefixes - 1 + strlen("|||||||192.0.2.1 199036|1622725323|1\n");
+    static uint8_t bytes[12 + 20 + 4096];
+
+    memcpy(bytes, record, 51);
+    bytes[10] = (20 + 4096) >> 8;
+    bytes[11] = (20 + 4096) & 0xFF;
+    bytes[48] = 4096 >> 8;
+    bytes[49] = 4096 & 0xFF;
+    HOLDS(record_says(bytes, sizeof bytes, GRAINLANTERN_KEPT, 1, line_len));
+    /* the paper promises this room, more than the line takes */
+    HOLDS(GRAINLANTERN_LINE_ROOM == 65536 && line_len < GRAINLANTERN_LINE_ROOM);
+}
+
+static void full_tallies(void)
+{
+    uint32_t counts[4], after[4];
+    uint8_t lines[71];
+    uint64_t value[4];
+    struct grainlantern_tally tally;
+    int i;
+
+    for (i = 0; i < 4; i++) {
+        memset(counts, 0, sizeof counts);
+        counts[i] = UINT32_MAX;
+        memcpy(&tally, counts, sizeof tally);
+        HOLDS(says(grainlantern_judge_counted(program, program_len, record, sizeof record, lines, sizeof lines, &tally, fresh(value)),
+                   GRAINLANTERN_FULL_TALLY, value, 0, 0));
+        memcpy(after, &tally, sizeof tally);
+        HOLDS(memcmp(counts, after, sizeof after) == 0);
+        counts[i]--;
+        memcpy(&tally, counts, sizeof tally);
+        HOLDS(says(grainlantern_judge_counted(program, program_len, record, sizeof record, lines, sizeof lines, &tally, fresh(value)),
+                   GRAINLANTERN_KEPT, value, 1, 71));
+    }
 }
 
 static void walking(void)
@@ -144,7 +305,12 @@ int main(void)
     HOLDS(sizeof(struct grainlantern_tally) == 16);
     HOLDS(sizeof record == 83 && strlen(line) == 71);
     compiling();
+    limits_of_texts();
     judging();
+    numbers_of_records();
+    limits_of_records();
+    room_of_lines();
+    full_tallies();
     walking();
     threads();
     return wrong;

@@ -81,6 +81,36 @@ def conditions(rule):
     return found
 
 
+def own_names(text, crate, file, rule):
+    """What a file calls a rule of a crate's specs/FILE.antt: its name, another, or one behind the module's."""
+    module = rf"Rattle.{crate}(?:·specs)?\.specs\.{file}"
+    names = []
+    for brought in re.findall(rf"^use {module}\.\{{([^}}]*)\}}", text, re.M):
+        for name, _, other in (part.strip().partition(" as ") for part in brought.split(",")):
+            if name == rule:
+                names.append(other or name)
+    return names + [f"{other}.{rule}" for other in re.findall(rf"^use {module} as (\S+)$", text, re.M)]
+
+
+def with_blank(text, names):
+    """A text in which a rule of these names has a first argument, left blank: any in a pattern, and for the prover to find in a proof."""
+    used = list(re.finditer(r"^use [^{\n]*(?:\{[^}]*\})?", text, re.M))
+    start = used[-1].end() if used else 0
+    word = "|".join(map(re.escape, names))
+
+    def blank(m):
+        before, after = text[: start + m.start()].rstrip(), text[start + m.end() :]
+        last = re.search(r"\S*$", before).group()
+        # a field of that name, or another type's rule
+        if after.startswith(" :") or (before.endswith(("{", ";")) and after.startswith(" =")):
+            return m.group()
+        # an argument of a function, or of another rule's pattern
+        inner = re.search(r"[\w′)\]}]$", last) and last not in ("in", "where")
+        return f"({m.group()} _)" if inner else f"{m.group()} _"
+
+    return text[:start] + re.sub(rf"(?<![^\s({{\[,;])(?:{word})(?![^\s)}}\],;])", blank, text[start:])
+
+
 def mutants_of(item, known, text):
     """Every mutant of a declaration; known are the constructors and the fields of all crates."""
     found = []
@@ -117,9 +147,14 @@ def mutants_of(item, known, text):
             for other in sorted(set(bound_names(line)) - {t.text}):
                 add("variable", (t.start, t.end, other))
     body = text[item.start : end]
+    # a type of values, as `data Side : Type 0`, has no rules
+    relation = re.match(r"(?:pub )?data (?!\S+ : Type)", body)
     # a rule or a field dropped: a line of two blanks, a name and ':', with the deeper lines behind it
     for m in re.finditer(r"^  (?:pub )?([\w′-]+) : .*\n?(?:^   +.*\n?)*", body, re.M):
         add("rule", (item.start + m.start(), item.start + m.end(), ""))
+        if relation:
+            first = item.start + m.end(1) + len(" : ")
+            add("never", (first, first, "⊥ → "))
         whole = conditions(m.group())
         # the last part of a constructor is its result
         for a, b in whole[:-1] if " data " in f" {body.splitlines()[0]}" else whole:

@@ -37,21 +37,24 @@ class Row:
         for item in source.items:
             if item.name == self.item:
                 for mutant in source.mutants(item):
-                    other = Row.of(source, mutant)
-                    if (other.kind, other.place, other.old, other.new, other.line) == (self.kind, self.place, self.old, self.new, self.line):
+                    if self.same(Row.of(source, mutant)):
                         return mutant
         return None
 
+    def same(self, other):
+        """Whether two rows are of the same mutant."""
+        return all(getattr(self, name) == getattr(other, name) for name in COLUMNS if name not in ("result", "at"))
+
     def judge(self, bench, source, mutant, label):
         """Has the prover say what it makes of the row's mutant, in the copy of that label."""
-        text = mutant.apply(source.text)
-        status, log = bench.run(label, self.file, text)
+        texts = source.changed(mutant)
+        status, log = bench.run(label, texts)
         self.result, self.at = prover.sorted_out(status, log)
         # a walk by hand fits no other body
         if self.result == "fact" and self.kind != "promise" and self.file.startswith("src/") and source.by_hand(mutant.item):
             self.result = "unfit"
         if self.result == "accepted" and self.file.startswith("specs/"):
-            self.result, self.at = bench.dependents(self.file, text)
+            self.result, self.at = bench.dependents(texts)
         bench.keep(self, log)
 
 

@@ -16,7 +16,8 @@ OWN = KIT / "on" / platform.machine()
 # The proof file names a part that isn't asked for, or one that is asked for stands elsewhere.
 UNFIT = re.compile(
     r"has no `[^`]*` that can be named from here|this pattern needs a function|expected type `tie\.Need-[^`]*`, but this has type `tie\.Need-"
-    r"|is not a field of record|has no field|is not in scope|explicit arguments? but the pattern gives|is not a constructor"
+    r"|is not a field of record|has no field|is not in scope(?! here, so what is shown)|is not a constructor"
+    r"|explicit arguments? but the patterns? give|too many arguments for this constructor|is written too late: constructor"
 )
 # Follows from another error.
 WAKE = re.compile(r"was not admitted|so this cannot be checked")
@@ -82,9 +83,9 @@ def checked(root, crate, folder, words, limits):
 
 
 def errors_of(log):
-    """The errors that don't follow from another, each (file, what is refused, message)."""
+    """The errors that don't follow from another, and blanks that nothing fills, each (file, what is refused, message)."""
     found = []
-    for m in re.finditer(r"^(\S+?):\d+:\d+: error: (.*(?:\n  .*)*)", log, re.M):
+    for m in re.finditer(r"^(\S+?):\d+:\d+: (?:error: |unsolved \?\d+ in )(.*(?:\n  .*)*)", log, re.M):
         if not WAKE.search(m.group(2)):
             found.append((m.group(1), (re.match(r"`([^`]*)`", m.group(2)) or [None, ""])[1], m.group(2)))
     return found
@@ -123,25 +124,30 @@ class Whole:
                     shutil.copytree(self.root / "crates" / self.crate / part, place / part)
         return place
 
-    def run(self, label, file, text):
-        """What the prover says where a file of the crate has this text: its status and output."""
+    def run(self, label, texts):
+        """What the prover says where files of the repository have these texts: its status and output."""
         place = self.folder(label)
-        before = (place / file).read_text()
-        (place / file).write_text(text)
+        own = f"crates/{self.crate}/"
+        files = {place / file[len(own) :]: text for file, text in texts.items() if file.startswith(own)}
+        before = {file: file.read_text() for file in files}
+        for file, text in files.items():
+            file.write_text(text)
         status, log = checked(self.root, self.crate, place, self.words(label), self.limits)
-        (place / file).write_text(before)
+        for file, text in before.items():
+            file.write_text(text)
         return status, log.replace(f"{place}/", "")
 
     def words(self, label):
         return []
 
-    def dependents(self, file, text):
+    def dependents(self, texts):
         """What the crates that depend on this one say of a changed definition, which it proves itself."""
         with tempfile.TemporaryDirectory() as copy:
             copy = Path(copy)
             for name in ("crates", "crates.txt", "target"):
                 subprocess.run(["cp", "-a", self.root / name, copy / name], check=True)
-            (copy / "crates" / self.crate / file).write_text(text)
+            for file, text in texts.items():
+                (copy / file).write_text(text)
             for crate in behind(self.root, self.crate):
                 run = subprocess.run(["rt", "check", crate], cwd=copy, capture_output=True, text=True, errors="replace")
                 if run.returncode != 0:

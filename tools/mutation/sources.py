@@ -7,7 +7,7 @@ class Source:
     """A file of a crate with its items; known is what its module has to know of other files."""
 
     def __init__(self, root, crate, file, module, known):
-        self.folder, self.crate, self.file, self.module = root / "crates" / crate, crate, file, module
+        self.root, self.folder, self.crate, self.file, self.module = root, root / "crates" / crate, crate, file, module
         self.text = (self.folder / file).read_text()
         self.known = known(self.text)
         self.items = module.items_of(self.text)
@@ -22,6 +22,22 @@ class Source:
         if self.module is code_of and self.by_hand(item):
             found += code_of.promises_of(item, self.text)
         return found
+
+    def changed(self, mutant):
+        """The files that a mutant changes, from the repository's top: its own, and where a rule got a premise those that use the rule."""
+        text = mutant.apply(self.text)
+        texts = {f"crates/{self.crate}/{self.file}": text}
+        if mutant.kind == "never":
+            place = mutant.edits[0][0]
+            rule = self.text[:place].split()[-2]
+            end = text.find("\n\n", place)
+            texts[f"crates/{self.crate}/{self.file}"] = text[:end] + definitions_of.with_blank(text[end:], [rule])
+            for path in self.root.glob("crates/*/*/**/*.antt"):
+                other = path.read_text()
+                names = definitions_of.own_names(other, self.crate, self.file[len("specs/") : -len(".antt")], rule)
+                if names:
+                    texts[str(path.relative_to(self.root))] = definitions_of.with_blank(other, names)
+        return texts
 
 
 def code(root, crate):
