@@ -310,6 +310,21 @@ fn the_header_names_every_number_once() {
 }
 
 #[test]
+fn the_header_and_the_crate_have_the_same_sizes() {
+    let header = String::from_utf8(stored("include/grainlantern.h")).unwrap();
+    for (name, size) in [
+        ("TEXT_LIMIT", grainlantern::TEXT_LIMIT),
+        ("PROGRAM_ROOM", grainlantern::PROGRAM_ROOM),
+        ("HEADER_SIZE", grainlantern::HEADER_SIZE),
+        ("RECORD_LIMIT", grainlantern::RECORD_LIMIT),
+        ("LINE_ROOM", grainlantern::LINE_ROOM),
+    ] {
+        let line = format!("#define GRAINLANTERN_{name} {size}");
+        assert!(header.lines().any(|row| row == line), "{line}");
+    }
+}
+
+#[test]
 fn pieces_give_the_lines_of_a_file_of_any_size() {
     if Command::new("python3").arg("--version").output().is_err() {
         eprintln!("python3 is not on PATH: examples/pieces.py wasn't run");

@@ -1,4 +1,5 @@
-//! The manual page: it renders without warnings, and names what there is: every test, name and refusal of the sources, and files that exist.
+//! The manual pages: they render without warnings, and name what there is: every test, name and refusal of the sources, every option of mrtgrep, and
+//! files that exist.
 
 use std::collections::BTreeSet;
 use std::ffi::OsStr;
@@ -7,15 +8,16 @@ use std::process::Command;
 
 use cases::{path, stored};
 
-const PAGE: &str = "man/grainlantern.1";
+const GRAINLANTERN: &str = "man/grainlantern.1";
+const MRTGREP: &str = "man/mrtgrep.1";
 
 fn source(name: &str) -> String {
     String::from_utf8(stored(name)).expect(name)
 }
 
-/// The page with its escapes replaced by what they print.
-fn page() -> String {
-    let mut text = source(PAGE);
+/// A page with its escapes replaced by what they print.
+fn page(name: &str) -> String {
+    let mut text = source(name);
     for (escape, printed) in [
         ("\\\"", ""),
         ("\\-", "-"),
@@ -84,8 +86,14 @@ fn refusals(name: &str) -> Vec<u32> {
 }
 
 #[test]
-fn it_renders_without_warnings() {
-    let file = path(PAGE);
+fn they_render_without_warnings() {
+    for name in [GRAINLANTERN, MRTGREP] {
+        renders_without_warnings(name);
+    }
+}
+
+fn renders_without_warnings(name: &str) {
+    let file = path(name);
     let mut renderers = 0;
     for words in [
         &["mandoc", "-Tlint", "-Wwarning"][..],
@@ -115,7 +123,7 @@ fn it_renders_without_warnings() {
 
 #[test]
 fn it_has_every_test_and_no_other() {
-    let page = page();
+    let page = page(GRAINLANTERN);
     let filter = source("crates/filter/src/lib.rt");
     let mut words = byte_strings(&filter, |c| c == '-');
     assert!(words.len() >= 13, "{words:?}");
@@ -133,7 +141,7 @@ fn it_has_every_test_and_no_other() {
 
 #[test]
 fn it_has_every_name_of_a_type_and_an_attribute() {
-    let page = page();
+    let page = page(GRAINLANTERN);
     let source = source("crates/names/src/lib.rt");
     let names = byte_strings(&source, |c| c.is_ascii_uppercase());
     assert!(names.len() >= 18, "{names:?}");
@@ -146,7 +154,7 @@ fn it_has_every_name_of_a_type_and_an_attribute() {
 
 #[test]
 fn it_has_every_refusal_and_no_other() {
-    let page = page();
+    let page = page(GRAINLANTERN);
     let wanted: BTreeSet<u32> = ["filter", "message", "judge"]
         .into_iter()
         .flat_map(|name| refusals(&format!("crates/{name}/src/lib.rt")))
@@ -160,8 +168,13 @@ fn it_has_every_refusal_and_no_other() {
 }
 
 #[test]
-fn the_files_that_it_names_exist() {
-    let page = page();
+fn the_files_that_they_name_exist() {
+    for name in [GRAINLANTERN, MRTGREP] {
+        named_files_exist(&page(name));
+    }
+}
+
+fn named_files_exist(page: &str) {
     let part_of_name = |c: char| c.is_ascii_alphanumeric() || "_./-".contains(c);
     let mut files = 0;
     for word in page.split(|c| !part_of_name(c)) {
@@ -178,7 +191,7 @@ fn the_files_that_it_names_exist() {
 
 #[test]
 fn it_shows_every_example_as_it_is() {
-    let page = page();
+    let page = page(GRAINLANTERN);
     let examples = under(&page, ".SH EXAMPLES");
     let mut filters = 0;
     for entry in fs::read_dir(path("examples")).unwrap() {
@@ -193,4 +206,50 @@ fn it_shows_every_example_as_it_is() {
         filters += 1;
     }
     assert!(filters > 0);
+}
+
+/// The options of mrtgrep, as its table of names spells them.
+fn options() -> BTreeSet<String> {
+    let source = source("rust/mrtgrep/src/arguments.rs");
+    let (_, table) = source.split_once("const NAMES").unwrap();
+    let (table, _) = table.split_once("];").unwrap();
+    let spelled = table.split('"').skip(1).step_by(2);
+    spelled.map(str::to_owned).collect()
+}
+
+#[test]
+fn the_page_of_mrtgrep_has_every_option_and_no_other() {
+    let wanted = options();
+    assert!(wanted.len() >= 20, "{wanted:?}");
+    let page = page(MRTGREP);
+    let lines: Vec<&str> = under(&page, ".SH OPTIONS").lines().collect();
+    let named: BTreeSet<String> = lines
+        .windows(2)
+        .filter(|pair| pair[0] == ".TP")
+        .flat_map(|pair| pair[1].split([' ', ',', '"']))
+        .filter(|word| word.starts_with('-'))
+        .map(str::to_owned)
+        .collect();
+    assert_eq!(named, wanted);
+}
+
+#[test]
+fn the_help_of_mrtgrep_has_every_option_too() {
+    let source = source("rust/mrtgrep/src/usage.rs");
+    let help: BTreeSet<&str> = source.split([' ', ',', '\n', '[', ']']).collect();
+    for option in options() {
+        assert!(help.contains(&*option), "{option}");
+    }
+}
+
+#[test]
+fn the_pages_name_each_other() {
+    let page_of_mrtgrep = page(MRTGREP);
+    for heading in [".SH DESCRIPTION", ".SH SEE ALSO"] {
+        assert!(
+            under(&page_of_mrtgrep, heading).contains("\n.BR grainlantern (1)"),
+            "{heading}"
+        );
+    }
+    assert!(under(&page(GRAINLANTERN), ".SH SEE ALSO").contains("\n.BR mrtgrep (1)"));
 }

@@ -1,17 +1,27 @@
 //! The types of the crate grainlantern over the stored rows: each answer by number is the one of its type.
 
+use std::collections::BTreeSet;
+
 use cases::{bytes, rows, tally, KEEP_ALL, LINE_ROOM};
-use grainlantern::{Closing, NotJudged, Program, Records, Verdict};
+use grainlantern::{
+    Closing, Item, NotJudged, Peer, Program, ProgramRecord, Records, Relation, Side, Sign, Verdict,
+    PROGRAM_ROOM,
+};
 
 #[test]
 fn texts_give_programs_or_refusals() {
     for (row, columns) in rows("texts.tsv").iter().enumerate() {
         let text = bytes(&columns[0]);
+        let room: usize = columns[1].parse().unwrap();
         let number: u32 = columns[2].parse().unwrap();
         let place: usize = columns[3].parse().unwrap();
         match Program::compile(&text) {
-            // a buffer that is too short is another caller's: here there is always room
-            Ok(_) if number == 8 => {}
+            // a buffer that is too short is another caller's: here there is always room, and the reference has the program
+            Ok(program) if number == 8 => {
+                let wanted = reference::compile(&text, PROGRAM_ROOM).unwrap();
+                assert_eq!(program.as_bytes(), wanted, "row {row}");
+                assert!(wanted.len() > room, "row {row}");
+            }
             Ok(program) => {
                 assert_eq!(number, 0, "row {row}");
                 assert_eq!(program.as_bytes(), bytes(&columns[4]), "row {row}");
@@ -25,6 +35,87 @@ fn texts_give_programs_or_refusals() {
             }
         }
     }
+}
+
+/// The kind, variant, count, A and B of a program record.
+fn fields(record: ProgramRecord) -> (u8, u8, u16, u32, u32) {
+    match record {
+        ProgramRecord::Type { code } => (1, 0, 0, code.into(), 0),
+        ProgramRecord::Attribute { code } => (2, 0, 0, code.into(), 0),
+        ProgramRecord::Path {
+            from_start,
+            to_end,
+            items,
+        } => (3, u8::from(from_start) + 2 * u8::from(to_end), items, 0, 0),
+        ProgramRecord::Item(Item::Number(number)) => (4, 0, 0, number, 0),
+        ProgramRecord::Item(Item::Not(number)) => (4, 1, 0, number, 0),
+        ProgramRecord::Item(Item::Any) => (4, 2, 0, 0, 0),
+        ProgramRecord::Peer(Peer::As(number)) => (5, 1, 0, 0, number),
+        ProgramRecord::Peer(Peer::Address(address)) => (5, 2, 0, address.into(), 0),
+        ProgramRecord::Peer(Peer::Both(address, number)) => (5, 3, 0, address.into(), number),
+        ProgramRecord::Loops => (6, 0, 0, 0, 0),
+        ProgramRecord::Bogon => (7, 0, 0, 0, 0),
+        ProgramRecord::Network {
+            relation,
+            side,
+            address,
+            length,
+        } => {
+            let variant = match relation {
+                Relation::Exact => 0,
+                Relation::Supernet => 1,
+                Relation::Subnet => 2,
+                Relation::Related => 3,
+            };
+            let side = match side {
+                Side::Either => 0,
+                Side::Announced => 1,
+                Side::Withdrawn => 2,
+            };
+            (8, variant, length.into(), address.into(), side)
+        }
+        ProgramRecord::Time {
+            sign,
+            seconds,
+            microseconds,
+        } => {
+            let variant = match sign {
+                Sign::Equal => 0,
+                Sign::Before => 1,
+                Sign::NotAfter => 2,
+                Sign::After => 3,
+                Sign::NotBefore => 4,
+            };
+            (9, variant, 0, seconds, microseconds)
+        }
+        ProgramRecord::Flip => (10, 0, 0, 0, 0),
+        ProgramRecord::PassIfFalse { over } => (11, 0, over, 0, 0),
+        ProgramRecord::PassIfTrue { over } => (12, 0, over, 0, 0),
+    }
+}
+
+#[test]
+fn program_records_have_all_that_the_bytes_have() {
+    let mut kinds = BTreeSet::new();
+    for (row, columns) in rows("texts.tsv").iter().enumerate() {
+        let Ok(program) = Program::compile(bytes(&columns[0])) else {
+            continue;
+        };
+        let mut written = Vec::new();
+        for record in program.records() {
+            let (kind, variant, count, a, b) = fields(record);
+            kinds.insert((kind, variant));
+            written.extend([kind, variant]);
+            written.extend(count.to_be_bytes());
+            written.extend(a.to_be_bytes());
+            written.extend(b.to_be_bytes());
+            written.extend([0; 4]);
+        }
+        assert_eq!(written, program.as_bytes(), "row {row}");
+    }
+    // the variants of each kind, none left out
+    let variants = [1, 1, 4, 3, 3, 1, 1, 4, 5, 1, 1, 1];
+    assert_eq!(kinds.len(), variants.iter().sum(), "{kinds:?}");
 }
 
 #[test]

@@ -45,6 +45,7 @@
 
 mod not_judged;
 mod program;
+mod program_record;
 pub mod raw;
 mod records;
 mod refusal;
@@ -54,13 +55,23 @@ mod verdict;
 
 pub use not_judged::NotJudged;
 pub use program::Program;
+pub use program_record::{Item, Peer, ProgramRecord, Relation, Side, Sign};
 pub use records::{Closing, Records};
 pub use refusal::{Reason, Refusal};
 pub use tally::Tally;
 pub use verdict::Verdict;
 
+/// The most bytes of a filter text.
+pub const TEXT_LIMIT: usize = 4096;
+
 /// Room in which every program fits: 512 records of 16 bytes.
 pub const PROGRAM_ROOM: usize = 8192;
+
+/// The bytes of a record's header.
+pub const HEADER_SIZE: usize = 12;
+
+/// The most bytes of a record that is judged, its header included.
+pub const RECORD_LIMIT: usize = 8192;
 
 /// Room in which the lines of every record fit.
 pub const LINE_ROOM: usize = 65536;

@@ -41,6 +41,24 @@ pub enum NotJudged {
 }
 
 impl NotJudged {
+    /// What can be wrong with a record itself, 11 to 18.
+    ///
+    /// ```
+    /// use grainlantern::NotJudged;
+    ///
+    /// assert!(NotJudged::OF_RECORD.iter().all(NotJudged::is_of_record));
+    /// ```
+    pub const OF_RECORD: [NotJudged; 8] = [
+        NotJudged::WrongSize,
+        NotJudged::WrongKind,
+        NotJudged::WrongPeer,
+        NotJudged::WrongFrame,
+        NotJudged::WrongSections,
+        NotJudged::WrongAttributes,
+        NotJudged::WrongBody,
+        NotJudged::WrongPrefix,
+    ];
+
     pub(crate) fn new(number: u32) -> NotJudged {
         match number {
             11 => NotJudged::WrongSize,
@@ -67,11 +85,17 @@ impl NotJudged {
     pub fn is_of_record(&self) -> bool {
         (11..=18).contains(&self.number())
     }
-}
 
-impl Display for NotJudged {
-    fn fmt(&self, f: &mut Formatter) -> fmt::Result {
-        let what = match self {
+    /// What is wrong, in words.
+    ///
+    /// ```
+    /// use grainlantern::NotJudged;
+    ///
+    /// assert_eq!(NotJudged::WrongPrefix.words(), "a prefix is wrong");
+    /// assert_eq!(NotJudged::WrongPrefix.to_string(), "a prefix is wrong (refusal 18)");
+    /// ```
+    pub fn words(&self) -> &'static str {
+        match self {
             NotJudged::WrongSize => "the record's size is wrong",
             NotJudged::WrongKind => "the record is no BGP4MP message",
             NotJudged::WrongPeer => "the peer part is cut, or not of IPv4",
@@ -83,8 +107,13 @@ impl Display for NotJudged {
             NotJudged::ShortLines => "the record's lines don't fit the buffer",
             NotJudged::WrongProgram => "the program isn't valid",
             NotJudged::FullTally => "a count of the tally is at its highest",
-        };
-        write!(f, "{what} (refusal {})", self.number())
+        }
+    }
+}
+
+impl Display for NotJudged {
+    fn fmt(&self, f: &mut Formatter) -> fmt::Result {
+        write!(f, "{} (refusal {})", self.words(), self.number())
     }
 }
 

@@ -1,4 +1,5 @@
 use crate::not_judged::NotJudged;
+use crate::program_record::ProgramRecord;
 use crate::raw;
 use crate::refusal::Refusal;
 use crate::tally::Tally;
@@ -64,6 +65,22 @@ impl Program {
     /// The program's records, 16 bytes each, to be stored.
     pub fn as_bytes(&self) -> &[u8] {
         &self.bytes
+    }
+
+    /// The program's records, by which a person sees what a text was taken for. Their number is the text's weight.
+    ///
+    /// ```
+    /// use grainlantern::{Item, Program, ProgramRecord};
+    ///
+    /// let program = Program::compile("-aspath '^ !3333'")?;
+    /// let path = ProgramRecord::Path { from_start: true, to_end: false, items: 1 };
+    /// assert_eq!(program.records().len(), 2);
+    /// assert!(program.records().eq([path, ProgramRecord::Item(Item::Not(3333))]));
+    /// # Ok::<(), grainlantern::Refusal>(())
+    /// ```
+    pub fn records(&self) -> impl ExactSizeIterator<Item = ProgramRecord> + '_ {
+        let (records, _) = self.bytes.as_chunks();
+        records.iter().map(ProgramRecord::of)
     }
 
     /// Judges a record, which is its header and its body, and writes the lines of one that is kept to the start of a buffer.

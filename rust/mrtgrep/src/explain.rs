@@ -1,0 +1,248 @@
+//! A program in words, a row a record, so that a person sees what a filter was taken for.
+
+use grainlantern::{Item, Peer, Program, ProgramRecord, Relation, Side, Sign};
+
+/// The names of message types.
+const TYPES: [(u8, &str); 5] = [
+    (1, "OPEN"),
+    (2, "UPDATE"),
+    (3, "NOTIFICATION"),
+    (4, "KEEPALIVE"),
+    (5, "ROUTE_REFRESH"),
+];
+
+/// The names of attributes.
+const ATTRIBUTES: [(u8, &str); 13] = [
+    (1, "ORIGIN"),
+    (2, "AS_PATH"),
+    (3, "NEXT_HOP"),
+    (4, "MULTI_EXIT_DISC"),
+    (5, "LOCAL_PREF"),
+    (6, "ATOMIC_AGGREGATE"),
+    (7, "AGGREGATOR"),
+    (8, "COMMUNITY"),
+    (14, "MP_REACH_NLRI"),
+    (15, "MP_UNREACH_NLRI"),
+    (17, "AS4_PATH"),
+    (18, "AS4_AGGREGATOR"),
+    (32, "LARGE_COMMUNITY"),
+];
+
+/// The columns of the longest kind.
+const KIND: usize = "-timestamp".len();
+
+/// The rows of a program, numbered from 1.
+pub fn rows(program: &Program) -> String {
+    let weight = program.records().len();
+    let width = weight.to_string().len();
+    let mut rows = String::new();
+    for (record, number) in program.records().zip(1..) {
+        let kind = kind(record);
+        let words = words(record, number, weight);
+        rows += &format!("{number:width$}  {kind:KIND$}  {words}\n");
+    }
+    rows
+}
+
+/// A record's kind, by its word in the language.
+fn kind(record: ProgramRecord) -> &'static str {
+    match record {
+        ProgramRecord::Type { .. } => "-type",
+        ProgramRecord::Attribute { .. } => "-attr",
+        ProgramRecord::Path { .. } => "-aspath",
+        ProgramRecord::Item(_) => "item",
+        ProgramRecord::Peer(_) => "-peer",
+        ProgramRecord::Loops => "-loops",
+        ProgramRecord::Bogon => "-bogon-asn",
+        ProgramRecord::Network { relation, .. } => network_kind(relation),
+        ProgramRecord::Time { .. } => "-timestamp",
+        ProgramRecord::Flip => "!",
+        ProgramRecord::PassIfFalse { .. } => "-and",
+        ProgramRecord::PassIfTrue { .. } => "-or",
+    }
+}
+
+fn network_kind(relation: Relation) -> &'static str {
+    match relation {
+        Relation::Exact => "-exact",
+        Relation::Supernet => "-supernet",
+        Relation::Subnet => "-subnet",
+        Relation::Related => "-related",
+    }
+}
+
+/// What a record says.
+fn words(record: ProgramRecord, number: usize, weight: usize) -> String {
+    match record {
+        ProgramRecord::Type { code } => format!("the message is of type {}", named(code, &TYPES)),
+        ProgramRecord::Attribute { code } => {
+            format!("the update has attribute {}", named(code, &ATTRIBUTES))
+        }
+        ProgramRecord::Path {
+            from_start,
+            to_end,
+            items,
+        } => path(from_start, to_end, items),
+        ProgramRecord::Item(item) => self::item(item),
+        ProgramRecord::Peer(peer) => format!("the record comes from {}", self::peer(peer)),
+        ProgramRecord::Loops => "an AS number of the path comes back after another one".to_owned(),
+        ProgramRecord::Bogon => "an AS number of the path is reserved or private".to_owned(),
+        ProgramRecord::Network {
+            relation,
+            side,
+            address,
+            length,
+        } => format!("{} {} {address}/{length}", prefix(side), stands(relation)),
+        ProgramRecord::Time {
+            sign,
+            seconds,
+            microseconds,
+        } => {
+            let order = order(sign);
+            format!("the record's time is {order} {seconds}.{microseconds:06} seconds")
+        }
+        ProgramRecord::Flip => "true becomes false, false becomes true".to_owned(),
+        ProgramRecord::PassIfFalse { over } => {
+            format!(
+                "if false, go to {}",
+                landing(number, over, weight, "dropped")
+            )
+        }
+        ProgramRecord::PassIfTrue { over } => {
+            format!("if true, go to {}", landing(number, over, weight, "kept"))
+        }
+    }
+}
+
+fn named(code: u8, names: &[(u8, &str)]) -> String {
+    match names.iter().find(|(known, _)| *known == code) {
+        Some((_, name)) => format!("{name} ({code})"),
+        None => code.to_string(),
+    }
+}
+
+fn path(from_start: bool, to_end: bool, items: u16) -> String {
+    let items = match items {
+        0 => return no_items(from_start && to_end).to_owned(),
+        1 => "the item below".to_owned(),
+        _ => format!("the {items} items below"),
+    };
+    match (from_start, to_end) {
+        (false, false) => format!("the path has {items}, side by side"),
+        (true, false) => format!("the path begins with {items}"),
+        (false, true) => format!("the path ends with {items}"),
+        (true, true) => format!("the path is {items}, and no more"),
+    }
+}
+
+fn no_items(is_whole: bool) -> &'static str {
+    if is_whole {
+        "the path is there, and empty"
+    } else {
+        "the path is there"
+    }
+}
+
+fn item(item: Item) -> String {
+    match item {
+        Item::Number(number) => format!("AS {number}"),
+        Item::Not(number) => format!("any AS but {number}"),
+        Item::Any => "any AS".to_owned(),
+    }
+}
+
+fn peer(peer: Peer) -> String {
+    match peer {
+        Peer::As(number) => format!("AS {number}"),
+        Peer::Address(address) => format!("{address}"),
+        Peer::Both(address, number) => format!("{address} in AS {number}"),
+    }
+}
+
+/// How a prefix stands to the network.
+fn stands(relation: Relation) -> &'static str {
+    match relation {
+        Relation::Exact => "is",
+        Relation::Supernet => "is or covers",
+        Relation::Subnet => "is or lies in",
+        Relation::Related => "is, covers or lies in",
+    }
+}
+
+fn prefix(side: Side) -> &'static str {
+    match side {
+        Side::Either => "a prefix",
+        Side::Announced => "an announced prefix",
+        Side::Withdrawn => "a withdrawn prefix",
+    }
+}
+
+fn order(sign: Sign) -> &'static str {
+    match sign {
+        Sign::Equal => "exactly",
+        Sign::Before => "before",
+        Sign::NotAfter => "at or before",
+        Sign::After => "after",
+        Sign::NotBefore => "at or after",
+    }
+}
+
+/// Where a pass lands: a row, or the end with its verdict.
+fn landing(number: usize, over: u16, weight: usize, verdict: &str) -> String {
+    let next = number + 1 + usize::from(over);
+    if next > weight {
+        return format!("the end: {verdict}");
+    }
+    next.to_string()
+}
+
+#[cfg(test)]
+mod tests {
+    use super::*;
+
+    fn explained(text: &str) -> String {
+        rows(&Program::compile(text).unwrap())
+    }
+
+    #[test]
+    fn names_are_those_of_the_language() {
+        for (test, names) in [("-type", &TYPES[..]), ("-attr", &ATTRIBUTES[..])] {
+            for (code, name) in names {
+                let by_name = explained(&format!("{test} {name}"));
+                assert_eq!(by_name, explained(&format!("{test} {code}")));
+                assert!(
+                    by_name.ends_with(&format!(" {name} ({code})\n")),
+                    "{by_name}"
+                );
+            }
+        }
+        assert!(explained("-type 6").ends_with(" type 6\n"));
+    }
+
+    #[test]
+    fn passes_land_on_a_row_or_at_the_end() {
+        let wanted = "\
+1  -loops      an AS number of the path comes back after another one
+2  -or         if true, go to 7
+3  -aspath     the path begins with the 2 items below
+4  item        AS 5
+5  item        any AS but 6
+6  !           true becomes false, false becomes true
+7  -or         if true, go to the end: kept
+8  -bogon-asn  an AS number of the path is reserved or private
+";
+        assert_eq!(
+            explained("-loops -or ! -aspath '^5 !6' -or -bogon-asn"),
+            wanted
+        );
+        let wanted = "\
+1  -subnet     a withdrawn prefix is or lies in 10.0.0.0/8
+2  -and        if false, go to the end: dropped
+3  -timestamp  the record's time is at or after 7.500000 seconds
+";
+        assert_eq!(
+            explained("-subnet -10.1.2.3/8 -and -timestamp >=7.5"),
+            wanted
+        );
+    }
+}
