@@ -29,7 +29,8 @@ judgingIn (Judged bytes j) lines counting = some (judgingOf j lines counting)
 judgingIn (Refused why place) lines counting = none
 
 -- what is promised of an answer a, with program, new and after as the two buffers and the tally afterwards
-pub record Claimed (text buffer bytes lines : List ℕ) (counting : Option Tally) (a : Answer) (program new : List ℕ) (after : Option Tally) : Type 0 where
+pub record Claimed (text buffer bytes lines : List ℕ) (counting : Option Tally) (a : Answer) (program new : List ℕ) (after : Option Tally)
+    : Type 0 where
   -- the answer is that of compiling, and of judging with the bytes that it reported
   pub compiled : compilingIn a program ≡ ourCompiler text buffer
   pub judged : judgingIn a new after ≡ judgedWith ourJudge (ourCompiler text buffer) bytes lines counting

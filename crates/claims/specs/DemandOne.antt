@@ -1,5 +1,6 @@
--- Demand 1, as a claim about a compiler and a judge: each clause under the demand's own words. "It answers and stops": both are functions of all that is
--- lent, and the checker proves that the code ends. "It never asks its caller to have looked first": nothing is asked of the arguments but that bytes are bytes.
+-- Demand 1, as a claim about a compiler and a judge: each clause under the demand's own words. "It answers and stops": both are functions of all
+-- that is lent, and the checker proves that the code ends. "It never asks its caller to have looked first": nothing is asked of the arguments but
+-- that bytes are bytes.
 use Prim.Native.Nat.{ℕ, _≤_}
 use mathlib.Core.Path.{_≡_}
 use mathlib.Core.Bool.{true}
@@ -58,8 +59,8 @@ pub record OfRecord (program bytes lines : List ℕ) (counting : Option Tally) (
   pub uncounted : 19 ≤ j .number → j .tally ≡ counting
   -- "A line buffer of 65,536 bytes never gives 19"
   pub roomy : lineRoom ≤ length lines → j .number ≡ shortNumber → ⊥
-  -- the whole of it is an answer that the words give: "The last flag is the verdict", of any valid program; "Judging with a tally adds one to seen and one to
-  -- kept, dropped or, for 11 to 18, refused"
+  -- the whole of it is an answer that the words give: "The last flag is the verdict", of any valid program; "Judging with a tally adds one to seen
+  -- and one to kept, dropped or, for 11 to 18, refused"
   pub answer : records.Outcome
   pub given : records.Answers program bytes (length lines) counting answer
   pub is : j ≡ judgement answer lines counting
@@ -72,4 +73,5 @@ pub record DemandOne (compiler : Compiler) (judge : Judge) : Type 1 where
   -- 20, "every record is one that compiling some text could give": what a valid program's records are held to is just that
   pub possible : (r : Record) → Possible r ↔ Given r
   -- the truth of a test that the machine asks for is what the test means on the message
-  pub truthful : {m : Message} {bytes : List ℕ} → Represents m bytes → (t : Test) → Possible (headOf t) → (recordTruth m (headOf t) (itemsOf t) ≡ true) ↔ Means m t
+  pub truthful : {m : Message} {bytes : List ℕ} → Represents m bytes → (t : Test) → Possible (headOf t)
+      → (recordTruth m (headOf t) (itemsOf t) ≡ true) ↔ Means m t

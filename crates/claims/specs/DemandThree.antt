@@ -27,8 +27,8 @@ use Rattle.judge.specs.Tallies.{FullTally}
 use Rattle.judge.specs.Functions.{Judging, Judge}
 use Rattle.claims.specs.Functions.{judgedWith}
 
--- "its size, bytes, quotes and nesting are as the paper allows, the grammar derives it, its weight is within the limit and the buffer holds its program": what
--- filter/Answers asks in its rule `compiles`
+-- "its size, bytes, quotes and nesting are as the paper allows, the grammar derives it, its weight is within the limit and the buffer holds its
+-- program": what filter/Answers asks in its rule `compiles`
 pub record Compiles (text : List ℕ) (room : ℕ) : Type 0 where
   pub fine : Fine text
   pub reading : Reading
@@ -42,13 +42,14 @@ pub record JudgedSo (r : Reading) (m : Message) (lines : List ℕ) (counting : O
   -- "the paper's machine .. give[s] exactly the reading's verdict and steps on that record", which has therefore one verdict and one number of steps
   pub machine-gives : {b : Bool} {n : ℕ} → (machine (recordTruth m) (reported c) ≡ (b, n)) ↔ (HasVerdict m r b × Steps m r n)
   -- "with no full tally and, if the reading keeps it, room for its lines, .. the judging .. give[s] exactly the reading's verdict and steps"
-  pub judging-keeps : (FullTally counting → ⊥) → length (linesOf m) ≤ length lines → {n : ℕ} → ((j .number ≡ 1) × (j .steps ≡ n)) ↔ (Keeps m r × Steps m r n)
+  pub judging-keeps : (FullTally counting → ⊥) → length (linesOf m) ≤ length lines → {n : ℕ}
+      → ((j .number ≡ 1) × (j .steps ≡ n)) ↔ (Keeps m r × Steps m r n)
   pub judging-drops : (FullTally counting → ⊥) → {n : ℕ} → ((j .number ≡ 0) × (j .steps ≡ n)) ↔ (Drops m r × Steps m r n)
   -- "the steps never more than the text's weight"
   pub few : {n : ℕ} → Steps m r n → n ≤ weight r
 
--- the demand at a text, a program buffer, a record, a line buffer and a tally or none; c is what compiling answers, j what judging with the reported bytes
--- does, if the text compiles
+-- the demand at a text, a program buffer, a record, a line buffer and a tally or none; c is what compiling answers, j what judging with the
+-- reported bytes does, if the text compiles
 pub record DemandThreeAt (text buffer bytes lines : List ℕ) (counting : Option Tally) (c : Compiling) (j : Option Judging) : Type 0 where
   -- "the text compiles exactly when .."
   pub compiles : (c .number ≡ 0) ↔ Compiles text (length buffer)
@@ -60,9 +61,10 @@ pub record DemandThreeAt (text buffer bytes lines : List ℕ) (counting : Option
   -- "Whichever readable record is then judged with that program, .."
   pub judged : {r : Reading} → c .number ≡ 0 → Derived text r → {m : Message} → Represents m bytes
       → (answer : Judging) × (j ≡ some answer) × JudgedSo r m lines counting c answer
-  -- "A text of allowed size and bytes, with closed quotes, that the grammar doesn't derive is refused at the first token that no continuation allows, or at its
-  -- end if there is no such token, unless an earlier token opens a level too many."
-  pub refused : Fine text → {tokens : List Placed} → Lexes 0 text tokens → ((r : Reading) → Derived text r → ⊥) → FirstRefused text (c .number) (c .value)
+  -- "A text of allowed size and bytes, with closed quotes, that the grammar doesn't derive is refused at the first token that no continuation
+  -- allows, or at its end if there is no such token, unless an earlier token opens a level too many."
+  pub refused : Fine text → {tokens : List Placed} → Lexes 0 text tokens → ((r : Reading) → Derived text r → ⊥)
+      → FirstRefused text (c .number) (c .value)
 
 pub record DemandThree (compiler : Compiler) (judge : Judge) : Type 1 where
   -- "Whatever text and program buffer it is given, ..": all are free, and the program judged with is the bytes that compiling reported

@@ -1,5 +1,5 @@
--- What the demands speak of, as functions of all that is lent, so that a demand can be said of others too. A compiler stands in crate filter, a judge in
--- crate judge, a runner in crate run; here is the walker.
+-- What the demands speak of, as functions of all that is lent, so that a demand can be said of others too. A compiler stands in crate filter, a
+-- judge in crate judge, a runner in crate run; here is the walker.
 use Prim.Native.Nat.{ℕ, zero, suc}
 use mathlib.Core.List.{List}
 use mathlib.Core.Option.{Option, some, none}

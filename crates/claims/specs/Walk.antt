@@ -12,7 +12,8 @@ use Rattle.claims.specs.Functions.{Walker, stepBy}
 pub record Walks (walker : Walker) : Type 0 where
   -- any bytes are whole records, one after another, and a rest; and in one way only
   pub splits : (bytes : List ℕ) → (records : List (List ℕ)) × (rest : List ℕ) × Splits bytes records rest
-  pub one-split : {bytes rest left : List ℕ} {records others : List (List ℕ)} → Splits bytes records rest → Splits bytes others left → (records ≡ others) × (rest ≡ left)
+  pub one-split : {bytes rest left : List ℕ} {records others : List (List ℕ)} → Splits bytes records rest → Splits bytes others left
+      → (records ≡ others) × (rest ≡ left)
   -- the k-th step hands out the k-th record: its place and its length
   pub in-order : {bytes rest : List ℕ} {records : List (List ℕ)} → Splits bytes records rest → (k : ℕ) → k < length records
       → stepBy walker bytes k ≡ Record (placeIn records k) (length (getD records k []))

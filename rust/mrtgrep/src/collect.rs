@@ -148,7 +148,7 @@ impl<'a> Collector<'a> {
         // of a packed file it is no news
         if self.options.report || !is_packed {
             self.tell(format!(
-                "cut in the middle of a record: {left} bytes are left from byte {place} on"
+                "cut in the middle of a record: bytes left from byte {place} on: {left}"
             ));
         }
     }
@@ -173,7 +173,7 @@ impl<'a> Collector<'a> {
         };
         let (seen, number, words) = (counts.seen(), refusal.number(), refusal.words());
         self.tell(format!(
-            "none of its {seen} records could be judged; for {count} of them {words} (refused {number})"
+            "no record could be judged (seen: {seen}); the commonest reason ({count}): {words} (refused {number})"
         ));
     }
 

@@ -42,7 +42,7 @@ pub fn reported(name: &str, offset: usize, number: u32) -> String {
 
 /// What is told of a file that ends in the middle of a record.
 pub fn cut(name: &str, left: usize, offset: usize) -> String {
-    format!("mrtgrep: {name}: cut in the middle of a record: {left} bytes are left from byte {offset} on\n")
+    format!("mrtgrep: {name}: cut in the middle of a record: bytes left from byte {offset} on: {left}\n")
 }
 
 /// The most that a run may take before it is taken for stuck.
