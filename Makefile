@@ -18,7 +18,7 @@ MRTGREP = rust/target/release/mrtgrep
 
 PROVED := crates.txt $(shell find crates -type f)
 RUST := rust/Cargo.toml rust/mrtgrep/Cargo.toml $(shell find rust/grainlantern rust/mrtgrep/src -type f)
-VERSION := $(shell sed -n 's/^version = "\(.*\)"/\1/p' rust/grainlantern/Cargo.toml)
+VERSION := $(shell sed -n 's/^version = "\(.*\)"/\1/p' rust/Cargo.toml)
 
 all: $(PROGRAM) $(ARCHIVE) $(MRTGREP)
 

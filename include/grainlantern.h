@@ -10,7 +10,7 @@
  * the lines of one that is kept.
  *
  * Answers. Each function returns a number, named below, and sets all four places of `value`: first those that the function names,
- * then zeros. Places that aren't named are kept for later versions. Every input has its answer: any bytes may be handed in as a
+ * then zeros. Places and numbers that aren't named are kept for later versions. Every input has its answer: any bytes may be handed in as a
  * text, a program, a record or records, of any length.
  *
  * Pointers. A pointer must be good for as many bytes as the length beside it says, `value` for four numbers and `tally` for one
@@ -35,9 +35,18 @@
 extern "C" {
 #endif
 
+/* The version, and the same as a number that #if can compare: major x 1,000,000 + minor x 1,000 + patch. */
+#define GRAINLANTERN_VERSION "0.1.0"
+#define GRAINLANTERN_VERSION_NUMBER 1000
+
 /* The most bytes of a filter text. */
 #define GRAINLANTERN_TEXT_LIMIT 4096
-/* Room in which every program fits: 512 records of 16 bytes. With less, a text may be refused with 8. */
+/* The most levels of `!` and `(` in a filter text. */
+#define GRAINLANTERN_LEVEL_LIMIT 32
+/* The most records of a program, and the bytes of each. */
+#define GRAINLANTERN_WEIGHT_LIMIT 512
+#define GRAINLANTERN_PROGRAM_RECORD_SIZE 16
+/* Room in which every program fits, the product of these two. With less, a text may be refused with 8. */
 #define GRAINLANTERN_PROGRAM_ROOM 8192
 /* The bytes of a record's header. */
 #define GRAINLANTERN_HEADER_SIZE 12
@@ -50,13 +59,13 @@ extern "C" {
  * or 6; then 7 and 8. A place counts bytes from the text's first, which is 0. */
 enum grainlantern_compiled {
     GRAINLANTERN_COMPILED = 0,
-    GRAINLANTERN_LONG_TEXT = 1,      /* over 4,096 bytes; place 0 */
+    GRAINLANTERN_LONG_TEXT = 1,      /* over GRAINLANTERN_TEXT_LIMIT bytes; place 0 */
     GRAINLANTERN_FORBIDDEN_BYTE = 2, /* a byte that is none of 0x20 to 0x7E, tab and LF; the place of the first one */
     GRAINLANTERN_OPEN_QUOTE = 3,     /* a quote isn't closed; its place */
     GRAINLANTERN_WRONG_TOKEN = 4,    /* no continuation allows the token, or the end; its place, or the text's length */
     GRAINLANTERN_WRONG_OPERAND = 5,  /* an operand breaks its test's rule; its place, or its opening quote's */
-    GRAINLANTERN_DEEP_LEVEL = 6,     /* a `(` or `!` opens level 33; its place */
-    GRAINLANTERN_HEAVY_TEXT = 7,     /* over 512 program records; place 0 */
+    GRAINLANTERN_DEEP_LEVEL = 6,     /* a `(` or `!` opens a level past GRAINLANTERN_LEVEL_LIMIT; its place */
+    GRAINLANTERN_HEAVY_TEXT = 7,     /* over GRAINLANTERN_WEIGHT_LIMIT program records; place 0 */
     GRAINLANTERN_SHORT_PROGRAM = 8   /* the program doesn't fit the buffer; place 0 */
 };
 
@@ -65,7 +74,7 @@ enum grainlantern_compiled {
 enum grainlantern_judged {
     GRAINLANTERN_DROPPED = 0,
     GRAINLANTERN_KEPT = 1,
-    GRAINLANTERN_WRONG_SIZE = 11,       /* under 12 or over 8,192 bytes, or the length field isn't the rest */
+    GRAINLANTERN_WRONG_SIZE = 11,       /* under 12 or over GRAINLANTERN_RECORD_LIMIT bytes, or the length field isn't the rest */
     GRAINLANTERN_WRONG_KIND = 12,       /* the type isn't 16, or the subtype is neither 1 nor 4 */
     GRAINLANTERN_WRONG_PEER = 13,       /* the peer part is cut, or its address family isn't 1 (IPv4) */
     GRAINLANTERN_WRONG_FRAME = 14,      /* the BGP message's marker or length is wrong */
@@ -96,7 +105,7 @@ struct grainlantern_tally {
 /*
  * Compiles a filter text; it needs no 0 at its end.
  *
- * 0 (compiled): value[0] is the program's bytes, a multiple of 16, which stand at the start of `program`; what stood behind them
+ * 0 (compiled): value[0] is the program's bytes, whole program records, which stand at the start of `program`; what stood behind them
  * stays. Hand on just these bytes to grainlantern_judge.
  * 1 to 8 (refused): value[0] is the place.
  */

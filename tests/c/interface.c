@@ -116,14 +116,15 @@ static void limits_of_texts(void)
     HOLDS(text_says("-type 255", 9, GRAINLANTERN_COMPILED, 16));
     HOLDS(text_says("-type 256", 9, GRAINLANTERN_WRONG_OPERAND, 6));
 
-    memset(filter, '!', 33);
-    memcpy(filter + 33, "-loops", 6);
-    HOLDS(text_says(filter + 1, 32 + 6, GRAINLANTERN_COMPILED, 16 * 33));
-    HOLDS(text_says(filter, 33 + 6, GRAINLANTERN_DEEP_LEVEL, 32));
+    memset(filter, '!', GRAINLANTERN_LEVEL_LIMIT + 1);
+    memcpy(filter + GRAINLANTERN_LEVEL_LIMIT + 1, "-loops", 6);
+    HOLDS(text_says(filter + 1, GRAINLANTERN_LEVEL_LIMIT + 6, GRAINLANTERN_COMPILED,
+                    GRAINLANTERN_PROGRAM_RECORD_SIZE * (GRAINLANTERN_LEVEL_LIMIT + 1)));
+    HOLDS(text_says(filter, GRAINLANTERN_LEVEL_LIMIT + 1 + 6, GRAINLANTERN_DEEP_LEVEL, GRAINLANTERN_LEVEL_LIMIT));
 
-    len = pattern(filter, 512);
+    len = pattern(filter, GRAINLANTERN_WEIGHT_LIMIT);
     HOLDS(text_says(filter, len, GRAINLANTERN_HEAVY_TEXT, 0));
-    len = pattern(filter, 511);
+    len = pattern(filter, GRAINLANTERN_WEIGHT_LIMIT - 1);
     HOLDS(text_says(filter, len, GRAINLANTERN_COMPILED, GRAINLANTERN_PROGRAM_ROOM));
     HOLDS(says(grainlantern_compile((const uint8_t *)filter, len, room, sizeof room - 1, fresh(value)), GRAINLANTERN_SHORT_PROGRAM, value, 0, 0));
 }

@@ -314,6 +314,9 @@ fn the_header_and_the_crate_have_the_same_sizes() {
     let header = String::from_utf8(stored("include/grainlantern.h")).unwrap();
     for (name, size) in [
         ("TEXT_LIMIT", grainlantern::TEXT_LIMIT),
+        ("LEVEL_LIMIT", grainlantern::LEVEL_LIMIT),
+        ("WEIGHT_LIMIT", grainlantern::WEIGHT_LIMIT),
+        ("PROGRAM_RECORD_SIZE", grainlantern::ProgramRecord::SIZE),
         ("PROGRAM_ROOM", grainlantern::PROGRAM_ROOM),
         ("HEADER_SIZE", grainlantern::HEADER_SIZE),
         ("RECORD_LIMIT", grainlantern::RECORD_LIMIT),

@@ -1,11 +1,12 @@
 //! The types of the crate grainlantern over the stored rows: each answer by number is the one of its type.
 
 use std::collections::BTreeSet;
+use std::net::IpAddr;
 
 use cases::{bytes, rows, tally, KEEP_ALL, LINE_ROOM};
 use grainlantern::{
     Closing, Item, NotJudged, Peer, Program, ProgramRecord, Records, Relation, Side, Sign, Verdict,
-    PROGRAM_ROOM,
+    WrongProgram, PROGRAM_ROOM,
 };
 
 #[test]
@@ -37,6 +38,14 @@ fn texts_give_programs_or_refusals() {
     }
 }
 
+/// An address as A has it.
+fn a(address: IpAddr) -> u32 {
+    match address {
+        IpAddr::V4(address) => address.into(),
+        IpAddr::V6(address) => panic!("{address} is in no record"),
+    }
+}
+
 /// The kind, variant, count, A and B of a program record.
 fn fields(record: ProgramRecord) -> (u8, u8, u16, u32, u32) {
     match record {
@@ -51,8 +60,8 @@ fn fields(record: ProgramRecord) -> (u8, u8, u16, u32, u32) {
         ProgramRecord::Item(Item::Not(number)) => (4, 1, 0, number, 0),
         ProgramRecord::Item(Item::Any) => (4, 2, 0, 0, 0),
         ProgramRecord::Peer(Peer::As(number)) => (5, 1, 0, 0, number),
-        ProgramRecord::Peer(Peer::Address(address)) => (5, 2, 0, address.into(), 0),
-        ProgramRecord::Peer(Peer::Both(address, number)) => (5, 3, 0, address.into(), number),
+        ProgramRecord::Peer(Peer::Address(address)) => (5, 2, 0, a(address), 0),
+        ProgramRecord::Peer(Peer::Both(address, number)) => (5, 3, 0, a(address), number),
         ProgramRecord::Loops => (6, 0, 0, 0, 0),
         ProgramRecord::Bogon => (7, 0, 0, 0, 0),
         ProgramRecord::Network {
@@ -72,7 +81,7 @@ fn fields(record: ProgramRecord) -> (u8, u8, u16, u32, u32) {
                 Side::Announced => 1,
                 Side::Withdrawn => 2,
             };
-            (8, variant, length.into(), address.into(), side)
+            (8, variant, length.into(), a(address), side)
         }
         ProgramRecord::Time {
             sign,
@@ -91,6 +100,7 @@ fn fields(record: ProgramRecord) -> (u8, u8, u16, u32, u32) {
         ProgramRecord::Flip => (10, 0, 0, 0, 0),
         ProgramRecord::PassIfFalse { over } => (11, 0, over, 0, 0),
         ProgramRecord::PassIfTrue { over } => (12, 0, over, 0, 0),
+        other => panic!("{other:?} has no fields here"),
     }
 }
 
@@ -119,6 +129,18 @@ fn program_records_have_all_that_the_bytes_have() {
 }
 
 #[test]
+fn programs_are_parsed_and_converted_as_any_value() {
+    let program = Program::compile(KEEP_ALL).unwrap();
+    assert_eq!(KEEP_ALL.parse::<Program>().as_ref(), Ok(&program));
+    assert_eq!(AsRef::<[u8]>::as_ref(&program), program.as_bytes());
+    assert_eq!(Program::try_from(program.as_bytes()).as_ref(), Ok(&program));
+    let refusal = "-loops )".parse::<Program>().unwrap_err();
+    assert_eq!((refusal.number(), refusal.place()), (4, 7));
+    let wrong: WrongProgram = Program::try_from(&b"no program"[..]).unwrap_err();
+    assert_eq!(wrong.to_string(), "the program isn't valid (refusal 20)");
+}
+
+#[test]
 fn every_refusal_says_what_and_where() {
     let heavy = format!("-aspath '{}'", ". ".repeat(512));
     for (text, number, says) in [
@@ -127,7 +149,7 @@ fn every_refusal_says_what_and_where() {
         ("-aspath '5".to_owned(), 3, "at byte 8"),
         ("-loops )".to_owned(), 4, "at byte 7"),
         ("-type 256".to_owned(), 5, "at byte 6"),
-        ("!".repeat(33), 6, "at byte 32"),
+        ("!".repeat(33), 6, "opens level 33 at byte 32"),
         (heavy, 7, "over 512 records (refusal 7)"),
     ] {
         let refusal = Program::compile(&text).unwrap_err();
@@ -141,8 +163,8 @@ fn every_refusal_says_what_and_where() {
 /// The number of an answer, its steps and its lines.
 fn parts(answer: Result<Verdict, NotJudged>, lines: &[u8]) -> (u32, u32, &[u8]) {
     match answer {
-        Ok(Verdict::Kept { steps, written }) => (1, steps, &lines[..written]),
-        Ok(Verdict::Dropped { steps }) => (0, steps, &[]),
+        Ok(Verdict::Kept { spent, written }) => (1, spent.steps, &lines[..written]),
+        Ok(Verdict::Dropped { spent }) => (0, spent.steps, &[]),
         Err(refusal) => (refusal.number(), 0, &[]),
     }
 }
@@ -153,8 +175,8 @@ fn records_give_verdicts_or_refusals() {
         let number: u32 = columns[4].parse().unwrap();
         let program = match Program::from_bytes(&bytes(&columns[0])) {
             Ok(program) => program,
-            Err(refusal) => {
-                assert_eq!((refusal.number(), number), (20, 20), "row {row}");
+            Err(wrong) => {
+                assert_eq!((wrong.number(), number), (20, 20), "row {row}");
                 continue;
             }
         };
@@ -189,11 +211,7 @@ fn records_that_are_not_readable_are_told_from_the_rest() {
             }
         }
     }
-    for refusal in [
-        NotJudged::ShortLines,
-        NotJudged::WrongProgram,
-        NotJudged::FullTally,
-    ] {
+    for refusal in [NotJudged::ShortLines, NotJudged::FullTally] {
         assert!(!refusal.is_of_record(), "{refusal}");
     }
 }

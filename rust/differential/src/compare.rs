@@ -4,7 +4,7 @@
 use std::fmt;
 
 use grainlantern::{raw, Tally};
-use reference::{Judged, Refusal, Step};
+use reference::{Judged, Refusal, Spent, Step};
 
 use crate::random::Random;
 
@@ -173,14 +173,14 @@ impl Both {
     ) -> Result<(Judged, Tallied), Box<Difference>> {
         let (answer, after) = self.judge_by_archive(program, record, room, tally);
         let (judged, expected_after) = judge_by_reference(program, record, room, tally);
-        let (number, steps, front) = match &judged {
-            Judged::Kept { steps, lines } => (1, *steps, lines.as_slice()),
-            Judged::Dropped { steps } => (0, *steps, [].as_slice()),
-            Judged::Refused(number) => (*number, 0, [].as_slice()),
+        let (number, spent, front) = match &judged {
+            Judged::Kept { spent, lines } => (1, *spent, lines.as_slice()),
+            Judged::Dropped { spent } => (0, *spent, [].as_slice()),
+            Judged::Refused(number) => (*number, Spent::default(), [].as_slice()),
         };
         let said = Said {
             number,
-            value: [steps.into(), front.len() as u64, 0, 0],
+            value: [spent.steps.into(), front.len() as u64, 0, 0],
             front,
             tally: expected_after,
         };

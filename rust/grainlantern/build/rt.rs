@@ -1,4 +1,7 @@
 //! Runs the Rattle toolchain over the repository.
+//!
+//! It proves and builds within the repository's `target/`, as `rt` knows no other place: there it keeps what is proved, which takes minutes
+//! and is shared with `bin/`, `make` and the gate.
 
 use std::io::ErrorKind;
 use std::path::{Path, PathBuf};
@@ -36,8 +39,13 @@ pub fn rt(verb: &str, name: &str) {
         }
         Err(error) => format!("`rt {verb} {name}` could not be run: {error}"),
     };
+    fail(&why)
+}
+
+/// Says why there is nothing to link, and ends the build.
+pub fn fail(why: &str) -> ! {
     eprintln!("error: {why}");
-    exit(1);
+    exit(1)
 }
 
 /// The last lines of what a command wrote.

@@ -46,12 +46,14 @@
 mod not_judged;
 mod program;
 mod program_record;
+#[doc(hidden)]
 pub mod raw;
 mod records;
 mod refusal;
 mod sys;
 mod tally;
 mod verdict;
+mod wrong_program;
 
 pub use not_judged::NotJudged;
 pub use program::Program;
@@ -59,13 +61,20 @@ pub use program_record::{Item, Peer, ProgramRecord, Relation, Side, Sign};
 pub use records::{Closing, Records};
 pub use refusal::{Reason, Refusal};
 pub use tally::Tally;
-pub use verdict::Verdict;
+pub use verdict::{Spent, Verdict};
+pub use wrong_program::WrongProgram;
 
 /// The most bytes of a filter text.
 pub const TEXT_LIMIT: usize = 4096;
 
-/// Room in which every program fits: 512 records of 16 bytes.
-pub const PROGRAM_ROOM: usize = 8192;
+/// The most levels of `!` and `(` in a filter text.
+pub const LEVEL_LIMIT: usize = 32;
+
+/// The most records of a program.
+pub const WEIGHT_LIMIT: usize = 512;
+
+/// Room in which every program fits.
+pub const PROGRAM_ROOM: usize = WEIGHT_LIMIT * ProgramRecord::SIZE;
 
 /// The bytes of a record's header.
 pub const HEADER_SIZE: usize = 12;

@@ -3,7 +3,8 @@ use std::fmt::{self, Display, Formatter};
 
 /// Why a record isn't judged, with the refusal's number.
 ///
-/// The first that holds is given, in this order: 20, 21, 11 to 18, and 19 once the record is known to be kept.
+/// The first that holds is given, in this order: 21, 11 to 18, and 19 once the record is known to be kept. Number 20, a program that
+/// isn't valid, doesn't come: a [`Program`](crate::Program) is, and [`WrongProgram`](crate::WrongProgram) says it of bytes.
 ///
 /// ```
 /// use grainlantern::{NotJudged, Program};
@@ -14,6 +15,7 @@ use std::fmt::{self, Display, Formatter};
 /// assert_eq!(refusal.number(), 11);
 /// assert!(refusal.is_of_record());
 /// ```
+#[non_exhaustive]
 #[derive(Clone, Copy, Debug, PartialEq, Eq, Hash)]
 pub enum NotJudged {
     /// 11: under 12 or over 8,192 bytes, or the length field isn't the rest.
@@ -34,21 +36,13 @@ pub enum NotJudged {
     WrongPrefix = 18,
     /// 19: the record is kept, and its lines don't fit the buffer; [`LINE_ROOM`](crate::LINE_ROOM) always suffices.
     ShortLines = 19,
-    /// 20: the program isn't valid. Only [`Program::from_bytes`](crate::Program::from_bytes) says so, as a `Program` is.
-    WrongProgram = 20,
     /// 21: a count of the tally is at its highest.
     FullTally = 21,
 }
 
 impl NotJudged {
-    /// What can be wrong with a record itself, 11 to 18.
-    ///
-    /// ```
-    /// use grainlantern::NotJudged;
-    ///
-    /// assert!(NotJudged::OF_RECORD.iter().all(NotJudged::is_of_record));
-    /// ```
-    pub const OF_RECORD: [NotJudged; 8] = [
+    /// What can be wrong with a record itself, in the order of its numbers.
+    pub const OF_RECORD: &'static [NotJudged] = &[
         NotJudged::WrongSize,
         NotJudged::WrongKind,
         NotJudged::WrongPeer,
@@ -70,20 +64,20 @@ impl NotJudged {
             17 => NotJudged::WrongBody,
             18 => NotJudged::WrongPrefix,
             19 => NotJudged::ShortLines,
-            20 => NotJudged::WrongProgram,
             21 => NotJudged::FullTally,
-            _ => unreachable!("judging answers with 0, 1 or 11 to 21, not with {number}"),
+            _ => unreachable!("judging with a valid program answers with no {number}"),
         }
     }
 
-    /// The refusal's number, 11 to 21.
+    /// The refusal's number.
     pub fn number(&self) -> u32 {
         *self as u32
     }
 
-    /// Whether the record itself isn't readable (11 to 18), which a tally counts; the others leave the tally alone.
+    /// Whether the record itself isn't readable ([`OF_RECORD`](NotJudged::OF_RECORD)), which a tally counts; the others leave the tally
+    /// alone.
     pub fn is_of_record(&self) -> bool {
-        (11..=18).contains(&self.number())
+        NotJudged::OF_RECORD.contains(self)
     }
 
     /// What is wrong, in words.
@@ -105,7 +99,6 @@ impl NotJudged {
             NotJudged::WrongBody => "the body of a checked attribute is wrong",
             NotJudged::WrongPrefix => "a prefix is wrong",
             NotJudged::ShortLines => "the record's lines don't fit the buffer",
-            NotJudged::WrongProgram => "the program isn't valid",
             NotJudged::FullTally => "a count of the tally is at its highest",
         }
     }

@@ -1,9 +1,12 @@
+use std::str::FromStr;
+
 use crate::not_judged::NotJudged;
 use crate::program_record::ProgramRecord;
 use crate::raw;
 use crate::refusal::Refusal;
 use crate::tally::Tally;
 use crate::verdict::Verdict;
+use crate::wrong_program::WrongProgram;
 use crate::PROGRAM_ROOM;
 
 /// A filter, compiled: a valid program.
@@ -15,6 +18,16 @@ use crate::PROGRAM_ROOM;
 /// let stored = program.as_bytes().to_vec();
 /// assert_eq!(Program::from_bytes(&stored), Ok(program));
 /// # Ok::<(), grainlantern::Refusal>(())
+/// ```
+///
+/// What takes anything that can be parsed, converted or read as bytes takes a program too:
+///
+/// ```
+/// use grainlantern::Program;
+///
+/// let program: Program = "-loops".parse()?;
+/// assert_eq!(Program::try_from(program.as_ref())?, program);
+/// # Ok::<(), Box<dyn std::error::Error>>(())
 /// ```
 #[derive(Clone, Debug, PartialEq, Eq, Hash)]
 pub struct Program {
@@ -44,25 +57,18 @@ impl Program {
         Ok(Program { bytes })
     }
 
-    /// A program that was compiled before, as [`as_bytes`](Program::as_bytes) gave it; [`NotJudged::WrongProgram`] for bytes that
-    /// aren't a valid program.
-    ///
-    /// ```
-    /// use grainlantern::{NotJudged, Program};
-    ///
-    /// assert_eq!(Program::from_bytes(b"no program"), Err(NotJudged::WrongProgram));
-    /// ```
-    pub fn from_bytes(bytes: &[u8]) -> Result<Program, NotJudged> {
+    /// A program that was compiled before, as [`as_bytes`](Program::as_bytes) gave it.
+    pub fn from_bytes(bytes: &[u8]) -> Result<Program, WrongProgram> {
         // an empty record is refused too, but a program that isn't valid comes first
-        let refusal = Verdict::of(raw::judge(bytes, &[], &mut [])).err();
-        if refusal == Some(NotJudged::WrongProgram) {
-            return Err(NotJudged::WrongProgram);
+        let (number, _) = raw::judge(bytes, &[], &mut []);
+        if number == WrongProgram::NUMBER {
+            return Err(WrongProgram);
         }
         let bytes = bytes.to_vec();
         Ok(Program { bytes })
     }
 
-    /// The program's records, 16 bytes each, to be stored.
+    /// The program's records, of [`ProgramRecord::SIZE`] bytes each, to be stored.
     pub fn as_bytes(&self) -> &[u8] {
         &self.bytes
     }
@@ -98,22 +104,24 @@ impl Program {
     ///
     /// let mut lines = vec![0; LINE_ROOM];
     /// let program = Program::compile("-type KEEPALIVE -and -timestamp <8")?;
-    /// let verdict = program.judge(&record, &mut lines);
-    /// assert_eq!(verdict, Ok(Verdict::Kept { steps: 3, written: 0 }));
+    /// let verdict = program.judge(&record, &mut lines)?;
+    /// assert!(matches!(verdict, Verdict::Kept { written: 0, .. }));
+    /// assert_eq!(verdict.spent().steps, 3);
     ///
     /// let program = Program::compile("-peer 65002")?;
-    /// assert_eq!(program.judge(&record, &mut lines), Ok(Verdict::Dropped { steps: 1 }));
+    /// let verdict = program.judge(&record, &mut lines)?;
+    /// assert!(!verdict.is_kept());
     ///
     /// record.pop();
     /// assert_eq!(program.judge(&record, &mut lines), Err(NotJudged::WrongSize));
-    /// # Ok::<(), grainlantern::Refusal>(())
+    /// # Ok::<(), Box<dyn std::error::Error>>(())
     /// ```
     pub fn judge(&self, record: &[u8], lines: &mut [u8]) -> Result<Verdict, NotJudged> {
         Verdict::of(raw::judge(&self.bytes, record, lines))
     }
 
-    /// The same, and adds one to the tally's `seen` and one to its `kept`, its `dropped` or, for a record that isn't readable (11 to
-    /// 18), its `refused`. Other refusals leave the tally as it was; 21 is given before the record is looked at.
+    /// The same, and adds one to the tally's `seen` and one to its `kept`, its `dropped` or, for a record that isn't readable
+    /// ([`is_of_record`](NotJudged::is_of_record)), its `refused`. A tally that is full is refused before the record is looked at.
     ///
     /// ```
     /// use grainlantern::{NotJudged, Program, Tally};
@@ -136,5 +144,27 @@ impl Program {
         tally: &mut Tally,
     ) -> Result<Verdict, NotJudged> {
         Verdict::of(raw::judge_counted(&self.bytes, record, lines, tally))
+    }
+}
+
+impl FromStr for Program {
+    type Err = Refusal;
+
+    fn from_str(text: &str) -> Result<Program, Refusal> {
+        Program::compile(text)
+    }
+}
+
+impl TryFrom<&[u8]> for Program {
+    type Error = WrongProgram;
+
+    fn try_from(bytes: &[u8]) -> Result<Program, WrongProgram> {
+        Program::from_bytes(bytes)
+    }
+}
+
+impl AsRef<[u8]> for Program {
+    fn as_ref(&self) -> &[u8] {
+        self.as_bytes()
     }
 }

@@ -1,4 +1,4 @@
-use std::net::Ipv4Addr;
+use std::net::{IpAddr, Ipv4Addr};
 
 /// A record of a program, as [`Program::records`](crate::Program::records) gives it.
 ///
@@ -21,6 +21,7 @@ use std::net::Ipv4Addr;
 /// );
 /// # Ok::<(), grainlantern::Refusal>(())
 /// ```
+#[non_exhaustive]
 #[derive(Clone, Copy, Debug, PartialEq, Eq, Hash)]
 pub enum ProgramRecord {
     /// 1, `-type`: the message is of this type.
@@ -57,8 +58,8 @@ pub enum ProgramRecord {
         /// Which prefixes are looked at.
         side: Side,
         /// The network's address, with no bit set past the length.
-        address: Ipv4Addr,
-        /// The network's length, 0 to 32.
+        address: IpAddr,
+        /// The network's length in bits, at most the address's.
         length: u8,
     },
     /// 9, `-timestamp`: the record's time stands in this order to the one here.
@@ -85,6 +86,7 @@ pub enum ProgramRecord {
 }
 
 /// An item of a path's pattern.
+#[non_exhaustive]
 #[derive(Clone, Copy, Debug, PartialEq, Eq, Hash)]
 pub enum Item {
     /// This AS number.
@@ -101,9 +103,9 @@ pub enum Peer {
     /// By its AS number.
     As(u32),
     /// By its address.
-    Address(Ipv4Addr),
+    Address(IpAddr),
     /// By both.
-    Both(Ipv4Addr, u32),
+    Both(IpAddr, u32),
 }
 
 /// How a prefix stands to a test's network.
@@ -165,13 +167,13 @@ impl ProgramRecord {
                 items: count,
             },
             4 => ProgramRecord::Item(item(variant, a)),
-            5 => ProgramRecord::Peer(peer(variant, a.into(), b)),
+            5 => ProgramRecord::Peer(peer(variant, address(a), b)),
             6 => ProgramRecord::Loops,
             7 => ProgramRecord::Bogon,
             8 => ProgramRecord::Network {
                 relation: relation(variant),
                 side: side(b),
-                address: a.into(),
+                address: address(a),
                 length: count as u8,
             },
             9 => ProgramRecord::Time {
@@ -196,7 +198,12 @@ fn item(variant: u8, number: u32) -> Item {
     }
 }
 
-fn peer(variant: u8, address: Ipv4Addr, number: u32) -> Peer {
+/// An address of IPv4, which fills A.
+fn address(a: u32) -> IpAddr {
+    Ipv4Addr::from(a).into()
+}
+
+fn peer(variant: u8, address: IpAddr, number: u32) -> Peer {
     match variant {
         1 => Peer::As(number),
         2 => Peer::Address(address),

@@ -1,4 +1,5 @@
-//! The archive's answers as they are, by number, over buffers of any size: for tests, and for callers that keep numbers.
+//! The archive's answers as they are, by number, over buffers of any size: for the tests of this repository. No part of what the crate
+//! offers, so it isn't in its documentation.
 //!
 //! Each function answers with its number and four values, those that it doesn't use zero.
 //!

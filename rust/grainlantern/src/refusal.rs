@@ -1,6 +1,8 @@
 use std::error::Error;
 use std::fmt::{self, Display, Formatter};
 
+use crate::{LEVEL_LIMIT, TEXT_LIMIT, WEIGHT_LIMIT};
+
 /// Why a text isn't compiled, and where.
 ///
 /// ```
@@ -18,9 +20,10 @@ pub struct Refusal {
 }
 
 /// The reasons for which a text isn't compiled. Number 8, a program buffer that is too short, doesn't come: there is always room.
+#[non_exhaustive]
 #[derive(Clone, Copy, Debug, PartialEq, Eq, Hash)]
 pub enum Reason {
-    /// 1: the text has over 4,096 bytes.
+    /// 1: the text has over [`TEXT_LIMIT`] bytes.
     LongText = 1,
     /// 2: a byte is none of 0x20 to 0x7E, tab and LF.
     ForbiddenByte = 2,
@@ -30,9 +33,9 @@ pub enum Reason {
     WrongToken = 4,
     /// 5: an operand breaks its test's rule.
     WrongOperand = 5,
-    /// 6: a `(` or `!` opens level 33.
+    /// 6: a `(` or `!` opens a level past [`LEVEL_LIMIT`].
     DeepLevel = 6,
-    /// 7: the program would have over 512 records.
+    /// 7: the program would have over [`WEIGHT_LIMIT`] records.
     HeavyText = 7,
 }
 
@@ -72,15 +75,31 @@ impl Refusal {
 
 impl Display for Reason {
     fn fmt(&self, f: &mut Formatter) -> fmt::Result {
-        f.write_str(match self {
-            Reason::LongText => "the text has over 4,096 bytes",
-            Reason::ForbiddenByte => "a byte is neither printable ASCII nor tab nor LF",
-            Reason::OpenQuote => "a quote isn't closed",
-            Reason::WrongToken => "a token, or the end of the text, can't stand here",
-            Reason::WrongOperand => "an operand breaks its test's rule",
-            Reason::DeepLevel => "a '(' or '!' opens level 33",
-            Reason::HeavyText => "the program would have over 512 records",
-        })
+        match self {
+            Reason::LongText => write!(f, "the text has over {} bytes", grouped(TEXT_LIMIT)),
+            Reason::ForbiddenByte => {
+                f.write_str("a byte is neither printable ASCII nor tab nor LF")
+            }
+            Reason::OpenQuote => f.write_str("a quote isn't closed"),
+            Reason::WrongToken => f.write_str("a token, or the end of the text, can't stand here"),
+            Reason::WrongOperand => f.write_str("an operand breaks its test's rule"),
+            Reason::DeepLevel => write!(f, "a '(' or '!' opens level {}", LEVEL_LIMIT + 1),
+            Reason::HeavyText => {
+                write!(
+                    f,
+                    "the program would have over {} records",
+                    grouped(WEIGHT_LIMIT)
+                )
+            }
+        }
+    }
+}
+
+/// A number below a million with a comma before its last three digits, where it has more.
+fn grouped(number: usize) -> String {
+    match number {
+        0..1000 => number.to_string(),
+        _ => format!("{},{:03}", number / 1000, number % 1000),
     }
 }
 

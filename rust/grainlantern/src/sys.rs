@@ -1,4 +1,4 @@
-//! The archive's functions. All unsafe code of this crate stands here.
+//! The archive's functions, as `include/grainlantern.h` declares them. All unsafe code of this crate stands here.
 //!
 //! Every input has its answer, so a call is sound where its pointers are: each must be good for as many bytes as the length beside it
 //! says, `value` for four numbers, and what is written to must overlap nothing else that is handed in. References give all of that.

@@ -10,16 +10,16 @@ use grainlantern::NotJudged;
 pub struct Counts {
     pub kept: u64,
     pub dropped: u64,
-    /// Of each refusal, from the first number on.
+    /// Of each refusal of a record, in their order.
     refused: [u64; NotJudged::OF_RECORD.len()],
     pub bytes: u64,
 }
 
 impl Counts {
     pub fn refuse(&mut self, refusal: NotJudged) {
-        // of the others none comes: the program is compiled, there is no tally, and the room for lines always suffices
-        let first = NotJudged::OF_RECORD[0].number();
-        self.refused[(refusal.number() - first) as usize] += 1;
+        let mut all = NotJudged::OF_RECORD.iter();
+        let at = all.position(|one| *one == refusal);
+        self.refused[at.expect("there is no tally, and the room for lines always suffices")] += 1;
     }
 
     pub fn refused(&self) -> u64 {
@@ -42,7 +42,7 @@ impl Counts {
     }
 
     fn refusals(&self) -> impl Iterator<Item = (NotJudged, u64)> + '_ {
-        let rows = NotJudged::OF_RECORD.into_iter().zip(self.refused);
+        let rows = NotJudged::OF_RECORD.iter().copied().zip(self.refused);
         rows.filter(|(_, count)| *count > 0)
     }
 }

@@ -28,6 +28,9 @@ const ATTRIBUTES: [(u8, &str); 13] = [
     (32, "LARGE_COMMUNITY"),
 ];
 
+/// The kind of a record that has no word here yet.
+const NO_WORD: &str = "?";
+
 /// The columns of the longest kind.
 const KIND: usize = "-timestamp".len();
 
@@ -59,6 +62,7 @@ fn kind(record: ProgramRecord) -> &'static str {
         ProgramRecord::Flip => "!",
         ProgramRecord::PassIfFalse { .. } => "-and",
         ProgramRecord::PassIfTrue { .. } => "-or",
+        _ => NO_WORD,
     }
 }
 
@@ -111,6 +115,7 @@ fn words(record: ProgramRecord, number: usize, weight: usize) -> String {
         ProgramRecord::PassIfTrue { over } => {
             format!("if true, go to {}", landing(number, over, weight, "kept"))
         }
+        other => format!("{other:?}"),
     }
 }
 
@@ -148,6 +153,7 @@ fn item(item: Item) -> String {
         Item::Number(number) => format!("AS {number}"),
         Item::Not(number) => format!("any AS but {number}"),
         Item::Any => "any AS".to_owned(),
+        other => format!("{other:?}"),
     }
 }
 
@@ -198,6 +204,8 @@ fn landing(number: usize, over: u16, weight: usize, verdict: &str) -> String {
 
 #[cfg(test)]
 mod tests {
+    use std::fs;
+
     use super::*;
 
     fn explained(text: &str) -> String {
@@ -217,6 +225,27 @@ mod tests {
             }
         }
         assert!(explained("-type 6").ends_with(" type 6\n"));
+    }
+
+    /// The compiler doesn't name a kind that is missing here, so the stored texts do.
+    #[test]
+    fn every_kind_of_record_has_its_word() {
+        let stored = fs::read_to_string("../../tests/cases/texts.tsv").unwrap();
+        let programs = stored.lines().skip(1).filter_map(|row| {
+            let (hex, _) = row.split_once('\t').unwrap();
+            let digits = hex
+                .as_bytes()
+                .chunks(2)
+                .map(|two| str::from_utf8(two).unwrap());
+            let text: Vec<u8> = digits
+                .map(|two| u8::from_str_radix(two, 16).unwrap())
+                .collect();
+            Program::compile(text).ok()
+        });
+        for record in programs.flat_map(|program| program.records().collect::<Vec<_>>()) {
+            assert_ne!(kind(record), NO_WORD, "{record:?}");
+            assert_ne!(words(record, 1, 1), format!("{record:?}"));
+        }
     }
 
     #[test]

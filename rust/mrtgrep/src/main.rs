@@ -29,7 +29,7 @@ use std::io::{stderr, stdin, stdout, ErrorKind, IsTerminal};
 use std::process::ExitCode;
 use std::sync::Arc;
 
-use grainlantern::{Program, ProgramRecord, PROGRAM_ROOM};
+use grainlantern::{Program, WEIGHT_LIMIT};
 
 use arguments::{Asked, Misuse, Options};
 use collect::Collector;
@@ -91,8 +91,7 @@ fn tell_filter(
     let mut text = String::new();
     if options.check {
         let weight = program.records().len();
-        let most = PROGRAM_ROOM / ProgramRecord::SIZE;
-        text += &format!("{name}: weight {weight} of at most {most}\n");
+        text += &format!("{name}: weight {weight} of at most {WEIGHT_LIMIT}\n");
     }
     if options.explain {
         text += &explain::rows(program);

@@ -15,6 +15,13 @@ pub struct Filter {
 pub struct Verdict {
     /// Whether the record is kept.
     pub keep: bool,
+    /// What judging took.
+    pub spent: Spent,
+}
+
+/// What judging a record took.
+#[derive(Clone, Copy, Debug, Default, PartialEq, Eq)]
+pub struct Spent {
     /// The records of the program that were looked at, items not counted.
     pub steps: u32,
 }
@@ -38,10 +45,10 @@ impl Filter {
 
     fn run(&self, message: &Message) -> Verdict {
         let mut keep = false;
-        let mut steps = 0;
+        let mut spent = Spent::default();
         let mut at = 0;
         while let Some(op) = self.ops.get(at) {
-            steps += 1;
+            spent.steps += 1;
             at += 1;
             match op {
                 Op::Test(test) => keep = test.holds(message),
@@ -50,6 +57,6 @@ impl Filter {
                 Op::Pass { .. } => {}
             }
         }
-        Verdict { keep, steps }
+        Verdict { keep, spent }
     }
 }

@@ -1,6 +1,6 @@
 //! Any bytes as program and record, a line buffer of some size, and a tally: refusals 19 to 21 around those of the record.
 
-use crate::filter::Filter;
+use crate::filter::{Filter, Spent};
 
 /// Counts of the records that were judged.
 #[derive(Clone, Copy, Debug, Default, PartialEq, Eq)]
@@ -37,15 +37,15 @@ impl Tally {
 pub enum Judged {
     /// The filter is true of it.
     Kept {
-        /// The steps of the filter.
-        steps: u32,
+        /// What judging took.
+        spent: Spent,
         /// What is printed.
         lines: Vec<u8>,
     },
     /// The filter is false of it.
     Dropped {
-        /// The steps of the filter.
-        steps: u32,
+        /// What judging took.
+        spent: Spent,
     },
     /// The paper's number, 11 to 21.
     Refused(u32),
@@ -72,11 +72,11 @@ fn judge_with(filter: &Filter, record: &[u8], room: usize) -> Judged {
     match filter.judge(record, &mut lines) {
         Err(number) => Judged::Refused(number),
         Ok(verdict) if !verdict.keep => Judged::Dropped {
-            steps: verdict.steps,
+            spent: verdict.spent,
         },
         Ok(_) if lines.len() > room => Judged::Refused(19),
         Ok(verdict) => Judged::Kept {
-            steps: verdict.steps,
+            spent: verdict.spent,
             lines,
         },
     }

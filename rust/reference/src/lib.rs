@@ -22,6 +22,6 @@ mod token;
 mod walk;
 
 pub use compile::{compile, Refusal};
-pub use filter::{Filter, Verdict};
+pub use filter::{Filter, Spent, Verdict};
 pub use judge::{judge, Judged, Tally};
 pub use walk::{step, Step};

@@ -1,6 +1,6 @@
 //! The known pairs of the paper, and programs that no text gives.
 
-use reference::{compile, judge, Judged, Tally};
+use reference::{compile, judge, Judged, Spent, Tally};
 
 const PROGRAM_ROOM: usize = 8192;
 const LINE_ROOM: usize = 65536;
@@ -18,11 +18,16 @@ const R_LINE: &[u8] = b"+|10.1.2.0/24|199036 3333|192.0.2.1|i||||192.0.2.1 19903
 
 fn kept(steps: u32) -> Judged {
     let lines = R_LINE.to_vec();
-    Judged::Kept { steps, lines }
+    Judged::Kept {
+        spent: Spent { steps },
+        lines,
+    }
 }
 
 fn dropped(steps: u32) -> Judged {
-    Judged::Dropped { steps }
+    Judged::Dropped {
+        spent: Spent { steps },
+    }
 }
 
 fn judge_r(text: &str, room: usize) -> Judged {

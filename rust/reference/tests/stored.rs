@@ -2,7 +2,7 @@
 
 use std::path::Path;
 
-use reference::{compile, judge, step, Filter, Judged, Refusal, Step, Tally};
+use reference::{compile, judge, step, Filter, Judged, Refusal, Spent, Step, Tally};
 
 /// Room in which every program and the lines of every record fit.
 const PROGRAM_ROOM: usize = 8192;
@@ -104,12 +104,13 @@ fn judged() {
     for (row, columns) in rows("judged.tsv", 600).iter().enumerate() {
         let room: usize = columns[2].parse().unwrap();
         let steps: u32 = columns[5].parse().unwrap();
+        let spent = Spent { steps };
         let wanted = match columns[4].parse().unwrap() {
             1 => Judged::Kept {
-                steps,
+                spent,
                 lines: bytes(&columns[6]),
             },
-            0 => Judged::Dropped { steps },
+            0 => Judged::Dropped { spent },
             number => Judged::Refused(number),
         };
         let mut counted = tally(&columns[3]);
