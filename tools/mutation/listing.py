@@ -2,10 +2,12 @@
 import csv
 from collections import Counter
 
-from . import prover
+from . import prover, sources
 
 RESULTS = ("fact", "unfit", "accepted", "time")
-COLUMNS = ("crate", "file", "item", "kind", "place", "old", "new", "result", "at", "line")
+# nth counts the mutants of an item that make the same change in a line of the same text: no number of a line, so that a row holds while other lines change
+COLUMNS = ("crate", "file", "item", "kind", "nth", "old", "new", "result", "at", "line")
+SAID = ("result", "at")  # what the prover said; the others name the mutant
 
 
 class Row:
@@ -14,36 +16,11 @@ class Row:
             setattr(self, name, values.get(name, ""))
 
     def __str__(self):
-        return f"{self.crate}/{self.item} {self.place} {self.old!r} -> {self.new!r} in {self.line!r}"
+        return f"{self.crate}/{self.item} {self.old!r} -> {self.new!r} in {self.line!r}" + (f", {self.nth}." if self.nth != "1" else "")
 
-    @staticmethod
-    def of(source, mutant):
-        places, old, new = [], [], []
-        for start, end, text in mutant.edits:
-            line = source.text.count("\n", mutant.item.start, start)
-            column = start - source.text.rfind("\n", 0, start) - 1
-            places.append(f"{line}:{column}")
-            old.append(source.text[start:end])
-            new.append(text)
-        first = mutant.edits[0][0]
-        line = source.text[source.text.rfind("\n", 0, first) + 1 : source.text.find("\n", first)].strip()
-        row = Row({"crate": source.crate, "file": source.file, "item": mutant.item.name, "kind": mutant.kind, "line": line})
-        row.place = " ; ".join(places)
-        row.old, row.new = " ; ".join(map(shown, old)), " ; ".join(map(shown, new))
-        return row
-
-    def mutant(self, source):
-        """The mutant of this row, if the item still has it."""
-        for item in source.items:
-            if item.name == self.item:
-                for mutant in source.mutants(item):
-                    if self.same(Row.of(source, mutant)):
-                        return mutant
-        return None
-
-    def same(self, other):
-        """Whether two rows are of the same mutant."""
-        return all(getattr(self, name) == getattr(other, name) for name in COLUMNS if name not in ("result", "at"))
+    def key(self):
+        """What names the row's mutant."""
+        return tuple(getattr(self, name) for name in COLUMNS if name not in SAID)
 
     def judge(self, bench, source, mutant, label):
         """Has the prover say what it makes of the row's mutant, in the copy of that label."""
@@ -58,6 +35,42 @@ class Row:
         bench.keep(self, log)
 
 
+def rows_of(source, item):
+    """Every mutant of an item with its row, in the order of their places."""
+    found, times = [], Counter()
+    for mutant in source.mutants(item):
+        old = [shown(source.text[start:end]) for start, end, _ in mutant.edits]
+        new = [shown(text) for _, _, text in mutant.edits]
+        first = mutant.edits[0][0]
+        line = source.text[source.text.rfind("\n", 0, first) + 1 : source.text.find("\n", first)].strip()
+        row = Row({"crate": source.crate, "file": source.file, "item": item.name, "kind": mutant.kind, "line": line})
+        row.old, row.new = " ; ".join(old), " ; ".join(new)
+        times[row.key()] += 1
+        row.nth = str(times[row.key()])
+        found.append((row, mutant))
+    return found
+
+
+class Finder:
+    """The mutants of listed rows, as the sources are now."""
+
+    def __init__(self, root):
+        self.root, self.files, self.mutants = root, {}, {}
+
+    def find(self, row):
+        """The source and the mutant of a row; None where what it changes is gone."""
+        part = row.file.partition("/")[0]
+        if (row.crate, part) not in self.files:
+            made = sources.code if part == "src" else sources.definitions
+            self.files[row.crate, part] = {source.file: source for source in made(self.root, row.crate)}
+        source = self.files[row.crate, part].get(row.file)
+        if source and (row.crate, row.file) not in self.mutants:
+            every = [pair for item in source.items for pair in rows_of(source, item)]
+            self.mutants[row.crate, row.file] = {found.key(): mutant for found, mutant in every}
+        mutant = source and self.mutants[row.crate, row.file].get(row.key())
+        return (source, mutant) if mutant else None
+
+
 def shown(text):
     return " ".join(text.split())
 
@@ -66,14 +79,18 @@ def counts(rows):
     return Counter(row.result for row in rows)
 
 
-def write(path, rows, crate):
+def put(path, rows, crate):
     """Writes the rows of a crate, beside those that the file has of others."""
     kept = [row for row in read(path) if row.crate != crate] if path.exists() else []
     path.parent.mkdir(parents=True, exist_ok=True)
+    write(path, sorted(kept + rows, key=lambda row: (row.crate, row.file)))
+
+
+def write(path, rows):
     with path.open("w", newline="") as out:
         table = csv.writer(out, delimiter="\t", lineterminator="\n", quoting=csv.QUOTE_MINIMAL)
         table.writerow(COLUMNS)
-        for row in sorted(kept + rows, key=lambda row: (row.crate, row.file)):
+        for row in rows:
             table.writerow([getattr(row, name) for name in COLUMNS])
 
 

@@ -55,9 +55,3 @@ def definitions(root, crate):
             parts.setdefault(name, set()).update(others)
     files = sorted(f"specs/{path.name}" for path in (root / "crates" / crate / "specs").glob("*.antt"))
     return [Source(root, crate, file, definitions_of, lambda text: (names, parts)) for file in files]
-
-
-def find(root, row):
-    """The file of a row."""
-    made = code if row.file.startswith("src/") else definitions
-    return next((source for source in made(root, row.crate) if source.file == row.file), None)
