@@ -18,7 +18,8 @@ use std::fmt::{self, Display, Formatter};
 #[non_exhaustive]
 #[derive(Clone, Copy, Debug, PartialEq, Eq, Hash)]
 pub enum NotJudged {
-    /// 11: under 12 or over 8,192 bytes, or the length field isn't the rest.
+    /// 11: under [`HEADER_SIZE`](crate::HEADER_SIZE) or over [`RECORD_LIMIT`](crate::RECORD_LIMIT) bytes, or the length field isn't the
+    /// rest.
     WrongSize = 11,
     /// 12: the type isn't 16, or the subtype is neither 1 nor 4.
     WrongKind = 12,
