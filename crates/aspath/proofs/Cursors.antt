@@ -4,7 +4,7 @@ use native.Mathlib.Nat.{zero-mul, suc-mul, add-zero, lt-of-not-le}
 use native.Mathlib.Decide.{decLe, ℕ-discrete}
 use native.Mathlib.Omega.{arith}
 use mathlib.Core.Path.{_≡_, refl, sym, ap, _∙_}
-use mathlib.Core.List.{List, [], _∷_, _++_}
+use mathlib.Core.List.{List, [], _∷_, _++_, map}
 use lib.ListN.{length, getD, drop, length-drop}
 use lib.Seq.{getD-drop, drop-drop}
 use lib.Dec.{eqb·suc-zero}
@@ -14,7 +14,7 @@ use Rattle.octets.proofs.Rows.{items-end, items-next}
 use Rattle.aspath.specs.declared.Cursor.{Cursor}
 use Rattle.aspath.specs.declared.Next.{Next}
 use Rattle.aspath.specs.declared.Next.the-variants as next
-use Rattle.aspath.specs.Members.{Member, members}
+use Rattle.aspath.specs.Members.{Member, number, members, memberOf}
 use Rattle.aspath.specs.Wire.{segmentSize, segmentOf, numbersIn, membersOf}
 use Rattle.aspath.specs.Cursors.{numbersFrom, remaining, nextAt}
 use Rattle.aspath.proofs.Segments.{Stands, stands-size, size-stands, segment-sizes}
@@ -31,7 +31,7 @@ module _ (w : ℕ) where
 
   -- where one stands, the members are its numbers and those after it
   members-next : (l : List ℕ) → (segmentSize w l ≡ 0 → ⊥)
-      → membersOf w l ≡ numbersIn w (getD l 1 0) (drop 2 l) ++ membersOf w (drop (segmentSize w l) l)
+      → membersOf w l ≡ map number (numbersIn w (getD l 1 0) (drop 2 l)) ++ membersOf w (drop (segmentSize w l) l)
   unfolding members segmentOf
   members-next l n = rw (items-next (segmentSize w) (segmentOf w) (segment-sizes w) l n) refl
 
@@ -47,7 +47,7 @@ module _ (w : ℕ) (s : List ℕ) where
 
   -- a step's answer as a list: its member and those after it
   abbrev view : Next → List Member
-  view (next.Member n d) = n ∷ remaining w s d
+  view (next.Member n d) = memberOf n ∷ remaining w s d
   view next.End = []
 
   -- at the front of a segment
@@ -89,7 +89,7 @@ module _ (w : ℕ) (s : List ℕ) where
           simp (eqb·suc-zero n, lt-leb _ _ (lt-of-not-le f), members-past w s (at + suc n * w) k)
 
   -- what a step's answer says of the members from a cursor on: one, and those from the next cursor on
-  pub member-view : {n : Member} {d : Cursor} (c : Cursor) → nextAt w s c ≡ next.Member n d → remaining w s c ≡ n ∷ remaining w s d
+  pub member-view : {n : ℕ} {d : Cursor} (c : Cursor) → nextAt w s c ≡ next.Member n d → remaining w s c ≡ memberOf n ∷ remaining w s d
   member-view c e = sym (next-view (c .at) (c .left)) ∙ ap view e
 
   -- none

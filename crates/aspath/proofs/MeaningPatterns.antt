@@ -8,7 +8,7 @@ use borrow.Author.Tests.{not-true}
 use Rattle.aspath.specs.declared.Item.{Item}
 use Rattle.aspath.specs.declared.Item.the-variants.{Number, Other, Any}
 use Rattle.aspath.specs.Members.{Member, holds}
-use Rattle.aspath.specs.Patterns.{Fits, Each, none, more, Pattern, Matches, fits, matchesHere, matchesSome, matches}
+use Rattle.aspath.specs.Patterns.{Fits, EachFits, none, more, Pattern, Matches, fits, matchesHere, matchesSome, matches}
 use Rattle.octets.proofs.Choices.{never, either, second, each}
 use Rattle.aspath.proofs.MeaningMembers.{holds-sound, holds-complete, holds-not, not-holds}
 
@@ -31,7 +31,7 @@ record Here (end : Bool) (is : List Item) (path : List Member) : Type 0 where
   middle : List Member
   after : List Member
   joined : path ≡ middle ++ after
-  items : Each is middle
+  items : EachFits is middle
   ends : end ≡ true → after ≡ []
 
 -- items that were found to match from the front do
@@ -49,7 +49,7 @@ here-sound end (i ∷ is) (m ∷ ms) e = go (here-sound end is ms) (each (fits i
         record { middle = m ∷ o .middle; after = o .after; joined = ap (λ (l : List Member). m ∷ l) (o .joined); items = more (fits-sound i m (b .0)) (o .items); ends = o .ends }
 
 -- and none are missed
-here-complete : (end : Bool) {is : List Item} {middle : List Member} (after : List Member) → Each is middle → (end ≡ true → after ≡ [])
+here-complete : (end : Bool) {is : List Item} {middle : List Member} (after : List Member) → EachFits is middle → (end ≡ true → after ≡ [])
     → matchesHere end is (middle ++ after) ≡ true
 unfolding matchesHere
 here-complete end [] none f = refl

@@ -13,27 +13,27 @@ use Rattle.octets.specs.Lists.{Every, total}
 use Rattle.octets.specs.Rows.{Joined}
 use Rattle.octets.proofs.Bytes.{octets-drop}
 use Rattle.octets.proofs.Rows.{Reads, items-cost}
-use Rattle.aspath.specs.Members.{Kind, set, sequence, Segment}
+use Rattle.aspath.specs.Members.{SegmentType, set, sequence, Segment}
 use Rattle.aspath.specs.Encodable.{segmentCost, EncodableSegment}
-use Rattle.aspath.specs.Wire.{kindCode, SegmentBytes, segmentSize, segmentOf, segmentsOf}
+use Rattle.aspath.specs.Wire.{typeCode, SegmentBytes, segmentSize, segmentOf, segmentsOf}
 use Rattle.octets.proofs.Fields.{field-below}
 use Rattle.octets.proofs.Encode.{bytes-field}
 use Rattle.octets.proofs.Items.{joined-exist, joined-length, joined-every}
 use Rattle.aspath.proofs.Segments.{Stands, stands-size, size-stands, segment-sizes}
 use Rattle.aspath.proofs.NumberReads.{numbers-length, numbers-bytes, numbers-same, numbers-sound}
 
--- the code of a kind is one of the two, is read as that kind, and is that of the kind read
-kind-code : (k : Kind) → (kindCode k ≡ 1) ⊎ (kindCode k ≡ 2)
-kind-code set = inl refl
-kind-code sequence = inr refl
+-- the code of a type is one of the two, is read as that type, and is that of the type read
+type-code : (k : SegmentType) → (typeCode k ≡ 1) ⊎ (typeCode k ≡ 2)
+type-code set = inl refl
+type-code sequence = inr refl
 
-kind-same : (k : Kind) → pick (eqb (kindCode k) 1) set sequence ≡ k
-kind-same set = refl
-kind-same sequence = refl
+type-same : (k : SegmentType) → pick (eqb (typeCode k) 1) set sequence ≡ k
+type-same set = refl
+type-same sequence = refl
 
-kind-sound : {k : ℕ} → (k ≡ 1) ⊎ (k ≡ 2) → kindCode (pick (eqb k 1) set sequence) ≡ k
-kind-sound (inl e) = rw e refl
-kind-sound (inr e) = rw e refl
+type-sound : {k : ℕ} → (k ≡ 1) ⊎ (k ≡ 2) → typeCode (pick (eqb k 1) set sequence) ≡ k
+type-sound (inl e) = rw e refl
+type-sound (inr e) = rw e refl
 
 -- the bytes of a segment are as many as its numbers ask for
 segment-length : (w : ℕ) {s : Segment} {bytes : List ℕ} → SegmentBytes w s bytes → length bytes ≡ segmentCost w s
@@ -46,7 +46,7 @@ segments-length w j = joined-length (segmentCost w) (λ s bytes x. segment-lengt
 -- a segment stands at the front of its bytes and what follows
 segment-stands : (w : ℕ) {s : Segment} {bytes : List ℕ} → SegmentBytes w s bytes → (rest : List ℕ) → Stands w (bytes ++ rest) 0
 segment-stands w {s} x rest = rw (x .joined) (record {
-  kind = kind-code (s .kind);
+  type = type-code (s .type);
   some = x .some;
   fits = simp length-append (omega (arith, numbers-bytes w (x .numbers)));
 })
@@ -59,15 +59,15 @@ segment-exact w {s} x rest =
 -- and what is read is the segment
 segment-same : (w : ℕ) {s : Segment} {bytes : List ℕ} → SegmentBytes w s bytes → (rest : List ℕ) → segmentOf w (bytes ++ rest) ≡ s
 unfolding segmentOf
-segment-same w {s} x rest = rw (x .joined) (λ i. record { kind = kind-same (s .kind) i; numbers = numbers-same w (x .numbers) rest i })
+segment-same w {s} x rest = rw (x .joined) (λ i. record { type = type-same (s .type) i; numbers = numbers-same w (x .numbers) rest i })
 
 -- the bytes of a segment in their parts
 segment-joined : (w : ℕ) (l : List ℕ) → Stands w l 0
-    → take (2 + getD l 1 0 * w) l ≡ kindCode (segmentOf w l .kind) ∷ length (segmentOf w l .numbers) ∷ take (getD l 1 0 * w) (drop 2 l)
+    → take (2 + getD l 1 0 * w) l ≡ typeCode (segmentOf w l .type) ∷ length (segmentOf w l .numbers) ∷ take (getD l 1 0 * w) (drop 2 l)
 unfolding segmentOf
 segment-joined w [] x = absurd (omega (arith, x .fits))
 segment-joined w (a ∷ []) x = absurd (omega (arith, x .fits))
-segment-joined w (k ∷ c ∷ body) x = take-add 2 (c * w) (k ∷ c ∷ body) ∙ rw (kind-sound (x .kind), numbers-length w c body)
+segment-joined w (k ∷ c ∷ body) x = take-add 2 (c * w) (k ∷ c ∷ body) ∙ rw (type-sound (x .type), numbers-length w c body)
 
 -- the bytes of the segment read are a segment's
 segment-sound : (w : ℕ) (l : List ℕ) → Octets l → (segmentSize w l ≡ 0 → ⊥) → SegmentBytes w (segmentOf w l) (take (segmentSize w l) l)
@@ -109,7 +109,7 @@ segment-encodable w x = record { some = x .some; few = x .few; below = joined-ev
 
 -- an encodable segment has bytes
 segment-bytes : (w : ℕ) (s : Segment) → EncodableSegment w s → (bytes : List ℕ) × SegmentBytes w s bytes
-segment-bytes w s x = (kindCode (s .kind) ∷ length (s .numbers) ∷ body .0, record { some = x .some; few = x .few; body = body .0; joined = refl; numbers = body .1 })
+segment-bytes w s x = (typeCode (s .type) ∷ length (s .numbers) ∷ body .0, record { some = x .some; few = x .few; body = body .0; joined = refl; numbers = body .1 })
   where
     body : (bytes : List ℕ) × Joined (Field w) (s .numbers) bytes
     body = joined-exist (λ n h. (bytesOf w n, bytes-field w n h)) (x .below)

@@ -17,21 +17,21 @@ use Rattle.aspath.specs.Wire.{known, segmentSize}
 
 -- a whole segment stands at a place: a type that is known, a count of 1 or more, and that many numbers before the end
 pub record Stands (w : ℕ) (s : List ℕ) (at : ℕ) : Type 0 where
-  pub kind : (getD s at 0 ≡ 1) ⊎ (getD s at 0 ≡ 2)
+  pub type : (getD s at 0 ≡ 1) ⊎ (getD s at 0 ≡ 2)
   pub some : 1 ≤ getD s (at + 1) 0
   pub fits : at + (2 + getD s (at + 1) 0 * w) ≤ length s
 
-decKind : (k : ℕ) → Dec ((k ≡ 1) ⊎ (k ≡ 2))
-decKind k = go (ℕ-discrete k 1) (ℕ-discrete k 2)
+decType : (k : ℕ) → Dec ((k ≡ 1) ⊎ (k ≡ 2))
+decType k = go (ℕ-discrete k 1) (ℕ-discrete k 2)
   where
     go : Dec (k ≡ 1) → Dec (k ≡ 2) → Dec ((k ≡ 1) ⊎ (k ≡ 2))
     go (yes e) d = yes (inl e)
     go (no f) (yes e) = yes (inr e)
     go (no f) (no g) = no (⊎-elim f g)
 
-kind-known : {k : ℕ} → (k ≡ 1) ⊎ (k ≡ 2) → known k ≡ true
-kind-known (inl e) = rw e refl
-kind-known (inr e) = rw e refl
+type-known : {k : ℕ} → (k ≡ 1) ⊎ (k ≡ 2) → known k ≡ true
+type-known (inl e) = rw e refl
+type-known (inr e) = rw e refl
 
 module _ (w : ℕ) (s : List ℕ) (at : ℕ) where
   -- the size, by places of the whole
@@ -49,19 +49,19 @@ module _ (w : ℕ) (s : List ℕ) (at : ℕ) where
       let long : 2 ≤ length s - at = omega (arith, t .fits) in
       let counted : getD s (at + 1) 0 ≡ 0 → ⊥ = λ e. omega (arith, t .some) in
       let fits : 2 + getD s (at + 1) 0 * w ≤ length s - at = omega (arith, t .fits) in
-      size-at ∙ simp (le-ltb _ _ long, kind-known (t .kind), ne-eqb _ _ counted, le-ltb _ _ fits)
+      size-at ∙ simp (le-ltb _ _ long, type-known (t .type), ne-eqb _ _ counted, le-ltb _ _ fits)
 
   -- where the size isn't 0, a segment stands
   pub size-stands : (segmentSize w (drop at s) ≡ 0 → ⊥) → Stands w s at
-  size-stands n = go (decLe 2 (length s - at)) (decKind (getD s at 0)) (ℕ-discrete (getD s (at + 1) 0) 0) (decLe (2 + getD s (at + 1) 0 * w) (length s - at))
+  size-stands n = go (decLe 2 (length s - at)) (decType (getD s at 0)) (ℕ-discrete (getD s (at + 1) 0) 0) (decLe (2 + getD s (at + 1) 0 * w) (length s - at))
     where
       go : Dec (2 ≤ length s - at) → Dec ((getD s at 0 ≡ 1) ⊎ (getD s at 0 ≡ 2)) → Dec (getD s (at + 1) 0 ≡ 0)
           → Dec (2 + getD s (at + 1) 0 * w ≤ length s - at) → Stands w s at
       go (no f) k z d = absurd (n (size-at ∙ simp (lt-ltb _ _ (lt-of-not-le f))))
       go (yes h) (no f) z d = absurd (n (size-at ∙ simp (le-ltb _ _ h, ne-eqb _ _ (λ e. f (inl e)), ne-eqb _ _ (λ e. f (inr e)))))
-      go (yes h) (yes k) (yes z) d = absurd (n (size-at ∙ simp (le-ltb _ _ h, kind-known k, eq-eqb _ _ z)))
-      go (yes h) (yes k) (no z) (no f) = absurd (n (size-at ∙ simp (le-ltb _ _ h, kind-known k, ne-eqb _ _ z, lt-ltb _ _ (lt-of-not-le f))))
-      go (yes h) (yes k) (no z) (yes d) = record { kind = k; some = omega arith; fits = omega arith }
+      go (yes h) (yes k) (yes z) d = absurd (n (size-at ∙ simp (le-ltb _ _ h, type-known k, eq-eqb _ _ z)))
+      go (yes h) (yes k) (no z) (no f) = absurd (n (size-at ∙ simp (le-ltb _ _ h, type-known k, ne-eqb _ _ z, lt-ltb _ _ (lt-of-not-le f))))
+      go (yes h) (yes k) (no z) (yes d) = record { type = k; some = omega arith; fits = omega arith }
 
   -- where none stands, the size is 0
   pub size-none : (Stands w s at → ⊥) → segmentSize w (drop at s) ≡ 0

@@ -1,12 +1,12 @@
 -- `-bogon-asn`: some number lies in the table of document 000.
-use Prim.Native.Nat.{ℕ, _≤_, _<_}
-use mathlib.Core.Bool.{Bool, true, false}
+use Prim.Native.Nat.{ℕ, _≤_}
+use mathlib.Core.Bool.{Bool}
 use mathlib.Core.List.{List, [], _∷_}
-use lib.ListN.{length, getD}
 use lib.Dec.{leb}
-use Rattle.octets.specs.Choice.{pick}
+use Rattle.octets.specs.Choice.{both}
+use Rattle.octets.specs.Lists.{Some, somePasses}
 use Rattle.aspath.specs.declared.Range.{Range}
-use Rattle.aspath.specs.Members.{Member, Holds}
+use Rattle.aspath.specs.Members.{Member, HoldsSome, someHeld}
 
 abbrev pub range : ℕ → ℕ → Range
 range a b = record { low = a; high = b }
@@ -25,33 +25,26 @@ bogons =
     ∷ range 4294967295 4294967295  -- RFC 7300, the last of 32 bits
     ∷ []
 
+-- a number lies in a range
+pub record Within (n : ℕ) (r : Range) : Type 0 where
+  pub above : r .low ≤ n
+  pub below : n ≤ r .high
+
 -- a number lies in some range of the table
 pub record Bogon (n : ℕ) : Type 0 where
-  pub row : ℕ
-  pub within : row < length bogons
-  pub above : getD bogons row (range 0 0) .low ≤ n
-  pub below : n ≤ getD bogons row (range 0 0) .high
+  pub listed : Some (Within n) bogons
 
 -- some number of the path is one
 pub record HasBogon (path : List Member) : Type 0 where
-  pub n : ℕ
-  pub place : ℕ
-  pub within : place < length path
-  pub holds : Holds (getD path place 0) n
-  pub bogon : Bogon n
+  pub some : Some (HoldsSome Bogon) path
 
 -- ---- what the code computes
 
 abbrev pub inRange : ℕ → Range → Bool
-inRange n r = pick (leb (r .low) n) (leb n (r .high)) false
-
-unfoldable pub inSome : ℕ → List Range → Bool
-inSome n [] = false
-inSome n (r ∷ rs) = pick (inRange n r) true (inSome n rs)
+inRange n r = both (leb (r .low) n) (leb n (r .high))
 
 unfoldable pub isBogon : ℕ → Bool
-isBogon n = inSome n bogons
+isBogon n = somePasses (inRange n) bogons
 
 unfoldable pub someBogon : List Member → Bool
-someBogon [] = false
-someBogon (m ∷ ms) = pick (isBogon m) true (someBogon ms)
+someBogon path = somePasses (λ m. someHeld m isBogon) path

@@ -2,9 +2,9 @@
 use Prim.Native.Nat.{ℕ, _<_}
 use mathlib.Core.Bool.{Bool, true, false}
 use mathlib.Core.List.{List, [], _∷_}
-use lib.ListN.{length, getD}
 use Rattle.octets.specs.Choice.{pick}
-use Rattle.aspath.specs.Members.{Member, Holds, holds}
+use Rattle.octets.specs.Lists.{At}
+use Rattle.aspath.specs.Members.{Member, Holds, holds, someHeld}
 
 -- a number is in the members at i and at j, and not in one between them
 pub record Loop (path : List Member) : Type 0 where
@@ -14,10 +14,9 @@ pub record Loop (path : List Member) : Type 0 where
   pub j : ℕ
   pub before : i < k
   pub after : k < j
-  pub within : j < length path
-  pub leaves : Holds (getD path i 0) n
-  pub returns : Holds (getD path j 0) n
-  pub away : Holds (getD path k 0) n → ⊥
+  pub leaves : At (λ (m : Member). Holds m n) path i
+  pub away : At (λ (m : Member). Holds m n → ⊥) path k
+  pub returns : At (λ (m : Member). Holds m n) path j
 
 -- ---- what the code computes
 
@@ -26,6 +25,7 @@ unfoldable pub returnsIn : Bool → ℕ → List Member → Bool
 returnsIn other n [] = false
 returnsIn other n (m ∷ ms) = pick (holds m n) (pick other true (returnsIn other n ms)) (returnsIn true n ms)
 
+-- some number in the first member returns in those that follow, or there is a loop among these
 unfoldable pub hasLoop : List Member → Bool
 hasLoop [] = false
-hasLoop (n ∷ ns) = pick (returnsIn false n ns) true (hasLoop ns)
+hasLoop (m ∷ ms) = pick (someHeld m (λ n. returnsIn false n ms)) true (hasLoop ms)

@@ -14,9 +14,9 @@ Fits (Other n) m = Holds m n → ⊥
 Fits Any m = Unit {0}
 
 -- each item matches the member at its place
-pub data Each : List Item → List Member → Type 0 where
-  none : Each [] []
-  more : {i : Item} {m : Member} {is : List Item} {ms : List Member} → Fits i m → Each is ms → Each (i ∷ is) (m ∷ ms)
+pub data EachFits : List Item → List Member → Type 0 where
+  none : EachFits [] []
+  more : {i : Item} {m : Member} {is : List Item} {ms : List Member} → Fits i m → EachFits is ms → EachFits (i ∷ is) (m ∷ ms)
 
 -- a pattern: whether it starts with `^`, its items, whether it ends with `$`
 pub record Pattern : Type 0 where
@@ -30,7 +30,7 @@ pub record Matches (p : Pattern) (path : List Member) : Type 0 where
   pub middle : List Member
   pub after : List Member
   pub joined : path ≡ before ++ middle ++ after
-  pub each : Each (p .items) middle
+  pub each : EachFits (p .items) middle
   pub starts : p .start ≡ true → before ≡ []
   pub ends : p .end ≡ true → after ≡ []
 

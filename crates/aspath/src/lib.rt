@@ -3,11 +3,25 @@ ghost use mathlib.Core.Path.{_≡_};
 ghost use Prim.Native.Nat.{_≤_};
 ghost use lib.ListN.{drop};
 ghost use Rattle.octets.specs.Rows.{whole};
-ghost use Rattle.aspath.specs.Wire.{widthBytes, segmentSize, membersOf};
+ghost use Rattle.aspath.specs.Members.{memberOf};
+ghost use Rattle.aspath.specs.Wire.{widthBytes, widest, segmentSize, membersOf};
 ghost use Rattle.aspath.specs.Cursors.{nextAt};
 ghost use Rattle.aspath.specs.Loops.{hasLoop};
 ghost use Rattle.aspath.specs.Bogons.{isBogon, someBogon};
 ghost use Rattle.aspath.specs.Patterns.{fits};
+
+// The types of a segment (RFC 4271, section 4.3).
+pub const SET: u8 = 1;
+
+pub const SEQUENCE: u8 = 2;
+
+// The type and the count, before a segment's numbers.
+pub const SEGMENT_HEADER: usize = 2;
+
+// The bytes of an AS number: two (RFC 4271) or four (RFC 6793).
+const TWO_OCTETS: usize = 2;
+
+const FOUR_OCTETS: usize = 4;
 
 // The width of an AS number.
 pub enum Width {
@@ -40,7 +54,9 @@ pub struct Range {
     pub high: u32,
 }
 
-const BOGONS: [Range; 9] = [
+const BOGON_RANGES: usize = 9;
+
+const BOGONS: [Range; BOGON_RANGES] = [
     Range { low: 0, high: 0 },
     Range {
         low: 23456,
@@ -77,28 +93,28 @@ const BOGONS: [Range; 9] = [
 ];
 
 pub fn width_bytes(width: Width) -> usize
-    ensures { λ r. ⌜ (r ≡ widthBytes width) × (r ≤ 4) ⌝ }
+    ensures { λ r. ⌜ (r ≡ widthBytes width) × (r ≤ widest) ⌝ }
 {
     match width {
-        Width::Two => 2,
-        Width::Four => 4,
+        Width::Two => TWO_OCTETS,
+        Width::Four => FOUR_OCTETS,
     }
 }
 
-// The bytes of the segment at a place, 0 where no whole one of type 1 or 2 with a number or more stands there.
+// The bytes of the segment at a place, 0 where no whole one of a known type with a number or more stands there.
 fn sized_segment(s: &[u8], at: usize, width: usize) -> usize
-    requires { ⌜ width ≤ 4 ⌝ }
+    requires { ⌜ width ≤ widest ⌝ }
     ensures { λ r. ⌜ r ≡ segmentSize width (drop at (now (s .entry))) ⌝ }
 {
     if s.len() <= at {
         return 0;
     }
-    if s.len() - at < 2 {
+    if s.len() - at < SEGMENT_HEADER {
         return 0;
     }
-    let kind = s[at];
-    if kind != 1 {
-        if kind != 2 {
+    let of_type = s[at];
+    if of_type != SET {
+        if of_type != SEQUENCE {
             return 0;
         }
     }
@@ -106,7 +122,7 @@ fn sized_segment(s: &[u8], at: usize, width: usize) -> usize
     if count == 0 {
         return 0;
     }
-    let size = 2 + count * width;
+    let size = SEGMENT_HEADER + count * width;
     if s.len() - at < size {
         return 0;
     }
@@ -137,7 +153,7 @@ pub fn well_formed(s: &[u8], width: Width) -> bool
 }
 
 fn next_member(s: &[u8], c: Cursor, width: usize) -> Next
-    requires { ⌜ width ≤ 4 ⌝ }
+    requires { ⌜ width ≤ widest ⌝ }
     ensures { λ r. ⌜ r ≡ nextAt width (now (s .entry)) c ⌝ }
 {
     let at = c.at;
@@ -148,11 +164,11 @@ fn next_member(s: &[u8], c: Cursor, width: usize) -> Next
             return Next::End;
         }
         let count = s[at + 1] as usize;
-        let n = octets::number(s, at + 2, width);
+        let n = octets::number(s, at + SEGMENT_HEADER, width);
         return Next::Member(
             n,
             Cursor {
-                at: at + 2 + width,
+                at: at + SEGMENT_HEADER + width,
                 left: count - 1,
             },
         );
@@ -217,7 +233,7 @@ pub fn bogon(n: u32) -> bool
     ensures { λ r. ⌜ r ≡ isBogon n ⌝ }
 {
     let mut i = 0;
-    while i < 9 {
+    while i < BOGON_RANGES {
         let r = BOGONS[i];
         if r.low <= n {
             if n <= r.high {
@@ -250,7 +266,7 @@ pub fn has_bogon(s: &[u8], width: Width) -> bool
 
 // Whether an item of a pattern takes a member.
 pub fn takes(item: Item, member: u32) -> bool
-    ensures { λ r. ⌜ r ≡ fits item member ⌝ }
+    ensures { λ r. ⌜ r ≡ fits item (memberOf member) ⌝ }
 {
     match item {
         Item::Number(n) => member == n,

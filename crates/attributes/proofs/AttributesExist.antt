@@ -8,10 +8,10 @@ use Rattle.octets.specs.Numbers.{Octets, bytesOf}
 use Rattle.octets.specs.Lists.{Every, total}
 use Rattle.octets.specs.Rows.{Joined}
 use Rattle.octets.proofs.Bytes.{octets-none, octets-append}
-use Rattle.aspath.specs.Members.{Kind, set, sequence, Segment}
-use Rattle.aspath.specs.Wire.{kindCode, SegmentBytes}
+use Rattle.aspath.specs.Members.{SegmentType, set, sequence, Segment}
+use Rattle.aspath.specs.Wire.{typeCode, SegmentBytes}
 use Rattle.aspath.proofs.SegmentReads.{segment-encodable, segments-length, segments-exist}
-use Rattle.attributes.specs.Attribute.{Attribute, origin, asPath, nextHop, atomicAggregate, other, codeOf}
+use Rattle.attributes.specs.Attribute.{Attribute, origin, asPath, nextHop, atomicAggregate, other, codeOf, nextHopSize}
 use Rattle.attributes.specs.Encodable.{bodyCost, withHeader, attributeCost, EncodableAttribute}
 use Rattle.attributes.specs.Wire.{Raw}
 use Rattle.attributes.specs.Bodies.{HasBody, AttributeBytes}
@@ -36,15 +36,15 @@ body-below w (nextHop a) h = omega arith
 body-below w atomicAggregate h = omega arith
 body-below w (other code body) h = h .3
 
-kind-below : (k : Kind) → kindCode k < 256
-kind-below set = omega arith
-kind-below sequence = omega arith
+type-below : (k : SegmentType) → typeCode k < 256
+type-below set = omega arith
+type-below sequence = omega arith
 
 -- the bytes of a segment are bytes
 segment-octets : {w : ℕ} {s : Segment} {bytes : List ℕ} → SegmentBytes w s bytes → Octets bytes
 segment-octets {w} {s} x =
     rw (x .joined)
-    (octets-append (octets-one (kindCode (s .kind)) (kind-below (s .kind)))
+    (octets-append (octets-one (typeCode (s .type)) (type-below (s .type)))
     (octets-append (octets-one (length (s .numbers)) (x .few)) (joined-octets (λ n bytes f. f .octets) (x .numbers))))
 
 module _ (w : ℕ) where
@@ -54,7 +54,7 @@ module _ (w : ℕ) where
   body-exists (asPath segments) h =
       let b = segments-exist w (h .0) in
       (b .0, b .1, joined-octets (λ s bytes x. segment-octets x) (b .1), b .2)
-  body-exists (nextHop a) h = let f = bytes-field 4 a h in (bytesOf 4 a, f, f .octets, f .long)
+  body-exists (nextHop a) h = let f = bytes-field nextHopSize a h in (bytesOf nextHopSize a, f, f .octets, f .long)
   body-exists atomicAggregate h = ([], refl, octets-none, refl)
   body-exists (other code body) h = (body, (h .0, refl), h .2, refl)
 

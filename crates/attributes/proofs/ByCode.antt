@@ -7,7 +7,7 @@ use mathlib.Core.List.{List}
 use lib.Dec.{eqb}
 use borrow.Author.Tests.{ne-eqb}
 use Rattle.octets.specs.Choice.{pick}
-use Rattle.attributes.specs.Attribute.{other}
+use Rattle.attributes.specs.Attribute.{other, originCode, asPathCode, nextHopCode, atomicAggregateCode}
 use Rattle.attributes.specs.Wire.{Raw}
 use Rattle.attributes.specs.Bodies.{Unchecked, bodyRight, said}
 
@@ -15,11 +15,11 @@ abbrev coded : ℕ → List ℕ → Raw
 coded n body = record { code = n; body = body }
 
 -- what holds of each of the four, and of the others, holds of every raw attribute
-pub by-code : {P : Raw → Type 0} → ((body : List ℕ) → P (coded 1 body)) → ((body : List ℕ) → P (coded 2 body))
-    → ((body : List ℕ) → P (coded 3 body)) → ((body : List ℕ) → P (coded 6 body)) → ((r : Raw) → Unchecked (r .code) → P r) → (r : Raw) → P r
-by-code {P} origin path next-hop atomic others r = go (ℕ-discrete (r .code) 1) (ℕ-discrete (r .code) 2) (ℕ-discrete (r .code) 3) (ℕ-discrete (r .code) 6)
+pub by-code : {P : Raw → Type 0} → ((body : List ℕ) → P (coded originCode body)) → ((body : List ℕ) → P (coded asPathCode body))
+    → ((body : List ℕ) → P (coded nextHopCode body)) → ((body : List ℕ) → P (coded atomicAggregateCode body)) → ((r : Raw) → Unchecked (r .code) → P r) → (r : Raw) → P r
+by-code {P} origin path next-hop atomic others r = go (ℕ-discrete (r .code) originCode) (ℕ-discrete (r .code) asPathCode) (ℕ-discrete (r .code) nextHopCode) (ℕ-discrete (r .code) atomicAggregateCode)
   where
-    go : Dec (r .code ≡ 1) → Dec (r .code ≡ 2) → Dec (r .code ≡ 3) → Dec (r .code ≡ 6) → P r
+    go : Dec (r .code ≡ originCode) → Dec (r .code ≡ asPathCode) → Dec (r .code ≡ nextHopCode) → Dec (r .code ≡ atomicAggregateCode) → P r
     go (yes a) b c d = rw a (origin (r .body))
     go (no a) (yes b) c d = rw b (path (r .body))
     go (no a) (no b) (yes c) d = rw c (next-hop (r .body))
@@ -28,7 +28,7 @@ by-code {P} origin path next-hop atomic others r = go (ℕ-discrete (r .code) 1)
 
 -- a choice by the codes of the four is the last where the code is another
 pick-other : {A : Type 0} {code : ℕ} → Unchecked code → (a b c d e : A)
-    → pick (eqb code 1) a (pick (eqb code 2) b (pick (eqb code 3) c (pick (eqb code 6) d e))) ≡ e
+    → pick (eqb code originCode) a (pick (eqb code asPathCode) b (pick (eqb code nextHopCode) c (pick (eqb code atomicAggregateCode) d e))) ≡ e
 pick-other u a b c d e = simp (ne-eqb _ _ (u .no-origin), ne-eqb _ _ (u .no-path), ne-eqb _ _ (u .no-next-hop), ne-eqb _ _ (u .no-atomic))
 
 -- what one of the others says

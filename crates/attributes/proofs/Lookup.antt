@@ -15,7 +15,7 @@ use Rattle.octets.specs.Rows.{itemsIn}
 use Rattle.aspath.specs.Wire.{segmentsOf}
 use Rattle.attributes.specs.declared.Found.{Found}
 use Rattle.attributes.specs.declared.Found.the-variants.{At, Absent}
-use Rattle.attributes.specs.Attribute.{Attribute, firstOf, askOrigin, askPath, askNextHop, askAtomic}
+use Rattle.attributes.specs.Attribute.{Attribute, firstOf, askOrigin, askPath, askNextHop, askAtomic, originCode, asPathCode, nextHopCode, atomicAggregateCode, nextHopSize}
 use Rattle.attributes.specs.Wire.{Raw, attributeSize, rawOf, rawsOf, codes}
 use Rattle.attributes.specs.Codes.{elem}
 use Rattle.attributes.specs.Bodies.{said, attributesOf}
@@ -92,25 +92,25 @@ module _ {A : Type 0} {w : ℕ} {ask : Attribute → Option A} {give : List ℕ 
   first-found s = first-said (rawsOf s) ∙ ap (Option·map give) (sym (find-body code s))
 
 -- the four that are asked
-pub asks-origin : (w : ℕ) → Asks w askOrigin (λ body. getD body 0 0) 1
+pub asks-origin : (w : ℕ) → Asks w askOrigin (λ body. getD body 0 0) originCode
 unfolding said askOrigin
 asks-origin w = record {
   answers = by-code (λ body. refl) (λ body. refl) (λ body. refl) (λ body. refl) (λ r u. rw (said-other w r u) (simp (ne-eqb _ _ (u .no-origin))));
 }
 
-pub asks-path : (w : ℕ) → Asks w askPath (segmentsOf w) 2
+pub asks-path : (w : ℕ) → Asks w askPath (segmentsOf w) asPathCode
 unfolding said askPath
 asks-path w = record {
   answers = by-code (λ body. refl) (λ body. refl) (λ body. refl) (λ body. refl) (λ r u. rw (said-other w r u) (simp (ne-eqb _ _ (u .no-path))));
 }
 
-pub asks-next-hop : (w : ℕ) → Asks w askNextHop (λ body. numberAt body 0 4) 3
+pub asks-next-hop : (w : ℕ) → Asks w askNextHop (λ body. numberAt body 0 nextHopSize) nextHopCode
 unfolding said askNextHop
 asks-next-hop w = record {
   answers = by-code (λ body. refl) (λ body. refl) (λ body. refl) (λ body. refl) (λ r u. rw (said-other w r u) (simp (ne-eqb _ _ (u .no-next-hop))));
 }
 
-pub asks-atomic : (w : ℕ) → Asks w askAtomic (λ body. tt) 6
+pub asks-atomic : (w : ℕ) → Asks w askAtomic (λ body. tt) atomicAggregateCode
 unfolding said askAtomic
 asks-atomic w = record {
   answers = by-code (λ body. refl) (λ body. refl) (λ body. refl) (λ body. refl) (λ r u. rw (said-other w r u) (simp (ne-eqb _ _ (u .no-atomic))));

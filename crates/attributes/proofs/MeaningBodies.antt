@@ -1,6 +1,5 @@
 -- What `bodyRight` and `allRight` decide: a raw attribute says an attribute, and each of a list does. Assumes nothing.
-use Prim.Native.Nat.{ℕ, zero, suc, _<_, suc-le-suc}
-use native.Mathlib.Nat.{le-of-suc-le-suc, not-suc-le-zero}
+use Prim.Native.Nat.{ℕ}
 use native.Mathlib.Omega.{arith}
 use mathlib.Core.Path.{_≡_, refl, sym, ap, _∙_}
 use mathlib.Core.Bool.{Bool, true, false}
@@ -8,11 +7,11 @@ use mathlib.Core.List.{List, [], _∷_}
 use lib.ListN.{length, getD, drop-of-length-le}
 use borrow.Author.Tests.{eq-eqb, eqb-true, leb-true, le-leb}
 use Rattle.octets.specs.Numbers.{Octets}
-use Rattle.octets.specs.Lists.{Every, every-none, every-more}
+use Rattle.octets.specs.Lists.{Every, every-more, some-here, some-there}
 use Rattle.octets.proofs.Bytes.{octets-take, octets-drop}
 use Rattle.octets.proofs.Rows.{joined-whole, joined-items, whole-joined}
 use Rattle.aspath.proofs.SegmentReads.{segment-reads}
-use Rattle.attributes.specs.Attribute.{Attribute, origin, asPath, nextHop, atomicAggregate, other, codeOf}
+use Rattle.attributes.specs.Attribute.{Attribute, origin, asPath, nextHop, atomicAggregate, other, codeOf, incomplete}
 use Rattle.attributes.specs.Wire.{Raw, attributeHeader, bodySize, attributeSize, rawOf, rawsOf}
 use Rattle.attributes.specs.Bodies.{HasBody, Says, SomeWrong, bodyRight, allRight, said}
 use Rattle.octets.proofs.Choices.{never, each, alike}
@@ -51,7 +50,7 @@ module _ (w : ℕ) where
 
   right-of : (a : Attribute) (r : Raw) → codeOf a ≡ r .code → HasBody w a (r .body) → bodyRight w (r .code) (r .body) ≡ true
   unfolding bodyRight codeOf
-  right-of (origin n) r e b = rw (← e, b .1) (le-leb n 2 (b .0))
+  right-of (origin n) r e b = rw (← e, b .1) (le-leb n incomplete (b .0))
   right-of (asPath ss) r e b = rw (← e) (joined-whole (segment-reads w) b)
   right-of (nextHop a) r e b = rw (← e) (eq-eqb _ _ (b .long))
   right-of atomicAggregate r e b = rw (← e, b)
@@ -82,22 +81,15 @@ module _ (w : ℕ) where
   wrong-sound (r ∷ raws) e = go (bodyRight w (r .code) (r .body)) refl (wrong-sound raws)
     where
       go : (b : Bool) → bodyRight w (r .code) (r .body) ≡ b → (allRight w raws ≡ false → SomeWrong w raws) → SomeWrong w (r ∷ raws)
-      go false b ih = record { place = 0; within = omega arith; wrong = λ a s. never (sym b ∙ says-right s) }
-      go true b ih =
-          let x = ih (rw b at e) in
-          record { place = suc (x .place); within = suc-le-suc (x .within); wrong = x .wrong }
-
-  wrong-at : {raws : List Raw} → Every OctetBody raws → (i : ℕ) → i < length raws → ((a : Attribute) → Says w a (getD raws i (record { code = 0; body = [] })) → ⊥)
-      → allRight w raws ≡ false
-  unfolding allRight
-  wrong-at every-none i h f = absurd (not-suc-le-zero h)
-  wrong-at (every-more {a = r} {xs = raws} o os) zero h f = go (bodyRight w (r .code) (r .body)) refl
-    where
-      go : (b : Bool) → bodyRight w (r .code) (r .body) ≡ b → allRight w (r ∷ raws) ≡ false
-      go false b = rw b
-      go true b = absurd (f (said w r) (right-says r b o))
-  wrong-at (every-more {a = r} o os) (suc i) h f = alike (bodyRight w (r .code) (r .body)) (wrong-at os i (le-of-suc-le-suc h) f) refl
+      go false b ih = some-here (record { silent = λ a s. never (sym b ∙ says-right s) })
+      go true b ih = some-there (ih (rw b at e))
 
   -- where some attribute says nothing, not all bodies are right
   pub wrong-complete : {raws : List Raw} → Every OctetBody raws → SomeWrong w raws → allRight w raws ≡ false
-  wrong-complete o x = wrong-at o (x .place) (x .within) (x .wrong)
+  unfolding allRight
+  wrong-complete (every-more {a = r} {xs = raws} o os) (some-here x) = go (bodyRight w (r .code) (r .body)) refl
+    where
+      go : (b : Bool) → bodyRight w (r .code) (r .body) ≡ b → allRight w (r ∷ raws) ≡ false
+      go false b = rw b
+      go true b = absurd (x .silent (said w r) (right-says r b o))
+  wrong-complete (every-more {a = r} o os) (some-there x) = alike (bodyRight w (r .code) (r .body)) (wrong-complete os x) refl

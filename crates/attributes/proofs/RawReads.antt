@@ -15,7 +15,7 @@ use Rattle.octets.proofs.Numbers.{number-front, number-after, number-take}
 use Rattle.octets.proofs.Fields.{field-below}
 use Rattle.octets.proofs.Rows.{Reads}
 use Rattle.attributes.specs.Encodable.{withHeader}
-use Rattle.attributes.specs.Wire.{Raw, RawBytes, lengthWidth, attributeHeader, bodySize, attributeSize, rawOf}
+use Rattle.attributes.specs.Wire.{Raw, RawBytes, extendedLength, lengthWidth, attributeHeader, bodySize, attributeSize, rawOf}
 use Rattle.attributes.proofs.Sizes.{width-either, width-least, fits-stands, size-stands, attribute-sizes}
 use Rattle.octets.proofs.Encode.{bytes-field, bytes-length, octets-one}
 
@@ -138,5 +138,5 @@ unfolding withHeader lengthWidth
 raw-exists r c o h = go (decLe 256 (length (r .body)))
   where
     go : Dec (256 ≤ length (r .body)) → (bytes : List ℕ) × RawBytes r bytes × (length bytes ≡ rawSize r)
-    go (yes long) = rw (le-ltb _ _ long) (with-flags r 16 (omega arith) c o h)
+    go (yes long) = rw (le-ltb _ _ long) (with-flags r extendedLength (omega arith) c o h)
     go (no short) = rw (lt-ltb _ _ (lt-of-not-le short)) (with-flags r 0 (omega arith) c o (lt-of-not-le short))

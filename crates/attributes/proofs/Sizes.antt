@@ -12,23 +12,23 @@ use borrow.Author.Tests.{le-leb, lt-leb, eq-eqb, ne-eqb}
 use Rattle.octets.specs.Numbers.{numberAt}
 use Rattle.octets.proofs.Numbers.{number-lt, number-drop}
 use Rattle.octets.proofs.Rows.{Sizes}
-use Rattle.attributes.specs.Wire.{lengthWidth, attributeHeader, bodySize, attributeSize}
+use Rattle.attributes.specs.Wire.{extendedLength, lengthWidth, attributeHeader, bodySize, attributeSize}
 
 -- the length is two bytes under the flag
-pub width-two : (flags : ℕ) → flags / 16 % 2 ≡ 1 → lengthWidth flags ≡ 2
+pub width-two : (flags : ℕ) → flags / extendedLength % 2 ≡ 1 → lengthWidth flags ≡ 2
 unfolding lengthWidth
 width-two flags e = simp (eq-eqb _ _ e)
 
 -- and one byte without it
-pub width-one : (flags : ℕ) → (flags / 16 % 2 ≡ 1 → ⊥) → lengthWidth flags ≡ 1
+pub width-one : (flags : ℕ) → (flags / extendedLength % 2 ≡ 1 → ⊥) → lengthWidth flags ≡ 1
 unfolding lengthWidth
 width-one flags n = simp (ne-eqb _ _ n)
 
 -- and never anything else
 pub width-either : (flags : ℕ) → (lengthWidth flags ≡ 1) ⊎ (lengthWidth flags ≡ 2)
-width-either flags = go (ℕ-discrete (flags / 16 % 2) 1)
+width-either flags = go (ℕ-discrete (flags / extendedLength % 2) 1)
   where
-    go : Dec (flags / 16 % 2 ≡ 1) → (lengthWidth flags ≡ 1) ⊎ (lengthWidth flags ≡ 2)
+    go : Dec (flags / extendedLength % 2 ≡ 1) → (lengthWidth flags ≡ 1) ⊎ (lengthWidth flags ≡ 2)
     go (yes e) = inr (width-two flags e)
     go (no n) = inl (width-one flags n)
 

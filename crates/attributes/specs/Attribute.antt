@@ -5,8 +5,16 @@ use mathlib.Core.Option.{Option, some, none}
 use Rattle.octets.specs.Choice.{orElse}
 use Rattle.aspath.specs.Members.{Segment}
 
+-- the greatest ORIGIN: 0 is IGP, 1 EGP, 2 INCOMPLETE
+abbrev pub incomplete : ℕ
+incomplete = 2
+
+-- the bytes of the address of a NEXT_HOP
+abbrev pub nextHopSize : ℕ
+nextHopSize = 4
+
 pub data Attribute : Type 0 where
-  -- 0 IGP, 1 EGP, 2 incomplete
+  -- a number up to 2
   origin : ℕ → Attribute
   asPath : List Segment → Attribute
   -- an address
@@ -15,12 +23,26 @@ pub data Attribute : Type 0 where
   -- any other, by its code and its body
   other : ℕ → List ℕ → Attribute
 
+-- the codes of the types that are looked at
+
+abbrev pub originCode : ℕ
+originCode = 1
+
+abbrev pub asPathCode : ℕ
+asPathCode = 2
+
+abbrev pub nextHopCode : ℕ
+nextHopCode = 3
+
+abbrev pub atomicAggregateCode : ℕ
+atomicAggregateCode = 6
+
 -- the code of its type
 unfoldable pub codeOf : Attribute → ℕ
-codeOf (origin n) = 1
-codeOf (asPath segments) = 2
-codeOf (nextHop a) = 3
-codeOf atomicAggregate = 6
+codeOf (origin n) = originCode
+codeOf (asPath segments) = asPathCode
+codeOf (nextHop a) = nextHopCode
+codeOf atomicAggregate = atomicAggregateCode
 codeOf (other code body) = code
 
 -- ---- what a list of attributes says

@@ -1,5 +1,5 @@
 -- The bodies that are looked at, over the width w of an AS number in bytes.
-use Prim.Native.Nat.{ℕ, _≤_, _<_}
+use Prim.Native.Nat.{ℕ, _≤_}
 use mathlib.Core.Path.{_≡_}
 use mathlib.Core.Bool.{Bool, true, false}
 use mathlib.Core.List.{List, [], _∷_, map}
@@ -7,24 +7,26 @@ use lib.ListN.{length, getD}
 use lib.Dec.{leb, eqb}
 use Rattle.octets.specs.Choice.{pick}
 use Rattle.octets.specs.Numbers.{numberAt, Field}
+use Rattle.octets.specs.Lists.{Some}
 use Rattle.octets.specs.Rows.{Joined, whole}
 use Rattle.aspath.specs.Wire.{SegmentBytes, segmentSize, segmentsOf}
-use Rattle.attributes.specs.Attribute.{Attribute, origin, asPath, nextHop, atomicAggregate, other, codeOf}
+use Rattle.attributes.specs.Attribute.{Attribute, origin, asPath, nextHop, atomicAggregate, other, codeOf, originCode, asPathCode}
+use Rattle.attributes.specs.Attribute.{nextHopCode, atomicAggregateCode, incomplete, nextHopSize}
 use Rattle.attributes.specs.Wire.{Raw, RawBytes, rawsOf}
 
 -- a code whose body is free
 pub record Unchecked (code : ℕ) : Type 0 where
-  pub no-origin : code ≡ 1 → ⊥
-  pub no-path : code ≡ 2 → ⊥
-  pub no-next-hop : code ≡ 3 → ⊥
-  pub no-atomic : code ≡ 6 → ⊥
+  pub no-origin : code ≡ originCode → ⊥
+  pub no-path : code ≡ asPathCode → ⊥
+  pub no-next-hop : code ≡ nextHopCode → ⊥
+  pub no-atomic : code ≡ atomicAggregateCode → ⊥
 
 -- the body that says an attribute: ORIGIN one byte 0 to 2; AS_PATH none or more segments; NEXT_HOP an address of 4 bytes;
 -- ATOMIC_AGGREGATE none; any other is free
 abbrev pub HasBody : ℕ → Attribute → List ℕ → Type 0
-HasBody w (origin n) body = (n ≤ 2) × (body ≡ n ∷ [])
+HasBody w (origin n) body = (n ≤ incomplete) × (body ≡ n ∷ [])
 HasBody w (asPath segments) body = Joined (SegmentBytes w) segments body
-HasBody w (nextHop a) body = Field 4 a body
+HasBody w (nextHop a) body = Field nextHopSize a body
 HasBody w atomicAggregate body = body ≡ []
 HasBody w (other code bytes) body = Unchecked code × (body ≡ bytes)
 
@@ -39,20 +41,22 @@ pub record AttributeBytes (w : ℕ) (a : Attribute) (bytes : List ℕ) : Type 0 
   pub wire : RawBytes raw bytes
   pub says : Says w a raw
 
--- some attribute of a list says nothing: its body is wrong
-pub record SomeWrong (w : ℕ) (raws : List Raw) : Type 0 where
-  pub place : ℕ
-  pub within : place < length raws
-  pub wrong : (a : Attribute) → Says w a (getD raws place (record { code = 0; body = [] })) → ⊥
+-- a raw attribute says nothing: its body is wrong
+pub record Wrong (w : ℕ) (r : Raw) : Type 0 where
+  pub silent : (a : Attribute) → Says w a r → ⊥
+
+-- some attribute of a list is so
+abbrev pub SomeWrong : ℕ → List Raw → Type 0
+SomeWrong w raws = Some (Wrong w) raws
 
 -- ---- what the code computes
 
 unfoldable pub bodyRight : ℕ → ℕ → List ℕ → Bool
 bodyRight w code body =
-    pick (eqb code 1) (pick (eqb (length body) 1) (leb (getD body 0 0) 2) false)
-    (pick (eqb code 2) (whole (segmentSize w) body)
-    (pick (eqb code 3) (eqb (length body) 4)
-    (pick (eqb code 6) (eqb (length body) 0) true)))
+    pick (eqb code originCode) (pick (eqb (length body) 1) (leb (getD body 0 0) incomplete) false)
+    (pick (eqb code asPathCode) (whole (segmentSize w) body)
+    (pick (eqb code nextHopCode) (eqb (length body) nextHopSize)
+    (pick (eqb code atomicAggregateCode) (eqb (length body) 0) true)))
 
 unfoldable pub allRight : ℕ → List Raw → Bool
 allRight w [] = true
@@ -61,10 +65,10 @@ allRight w (r ∷ more) = pick (bodyRight w (r .code) (r .body)) (allRight w mor
 -- what a raw attribute says, where its body is right
 unfoldable pub said : ℕ → Raw → Attribute
 said w r =
-    pick (eqb (r .code) 1) (origin (getD (r .body) 0 0))
-    (pick (eqb (r .code) 2) (asPath (segmentsOf w (r .body)))
-    (pick (eqb (r .code) 3) (nextHop (numberAt (r .body) 0 4))
-    (pick (eqb (r .code) 6) atomicAggregate (other (r .code) (r .body)))))
+    pick (eqb (r .code) originCode) (origin (getD (r .body) 0 0))
+    (pick (eqb (r .code) asPathCode) (asPath (segmentsOf w (r .body)))
+    (pick (eqb (r .code) nextHopCode) (nextHop (numberAt (r .body) 0 nextHopSize))
+    (pick (eqb (r .code) atomicAggregateCode) atomicAggregate (other (r .code) (r .body)))))
 
 -- the attributes of a section
 abbrev pub attributesOf : ℕ → List ℕ → List Attribute

@@ -6,20 +6,20 @@ use Rattle.octets.specs.Choice.{pick}
 use Rattle.octets.specs.Numbers.{Octets}
 use Rattle.octets.specs.Lists.{Every, total}
 use Rattle.aspath.specs.Encodable.{segmentCost, EncodableSegment}
-use Rattle.attributes.specs.Attribute.{Attribute, origin, asPath, nextHop, atomicAggregate, other}
+use Rattle.attributes.specs.Attribute.{Attribute, origin, asPath, nextHop, atomicAggregate, other, incomplete, nextHopSize}
 use Rattle.attributes.specs.Bodies.{Unchecked}
 
 -- the bytes of the body that says it
 unfoldable pub bodyCost : ℕ → Attribute → ℕ
 bodyCost w (origin n) = 1
 bodyCost w (asPath segments) = total (segmentCost w) segments
-bodyCost w (nextHop a) = 4
+bodyCost w (nextHop a) = nextHopSize
 bodyCost w atomicAggregate = 0
 bodyCost w (other code body) = length body
 
 -- an attribute that has bytes: what it says fits, and its body is shorter than 2 ^ 16
 abbrev pub EncodableAttribute : ℕ → Attribute → Type 0
-EncodableAttribute w (origin n) = n ≤ 2
+EncodableAttribute w (origin n) = n ≤ incomplete
 EncodableAttribute w (asPath segments) = Every (EncodableSegment w) segments × (total (segmentCost w) segments < 65536)
 EncodableAttribute w (nextHop a) = a < 2 ^ 32
 EncodableAttribute w atomicAggregate = Unit {0}

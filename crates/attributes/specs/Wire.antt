@@ -14,9 +14,12 @@ pub record Raw : Type 0 where
   pub code : ℕ
   pub body : List ℕ
 
--- the flag 0x10 makes the length two bytes
+-- the flag Extended Length, 0x10, makes the length two bytes
+abbrev pub extendedLength : ℕ
+extendedLength = 16
+
 unfoldable pub lengthWidth : ℕ → ℕ
-lengthWidth flags = pick (eqb (flags / 16 % 2) 1) 2 1
+lengthWidth flags = pick (eqb (flags / extendedLength % 2) 1) 2 1
 
 -- these bytes are an attribute: flags, its code, the length of its body, and its body; the other flags are free
 pub record RawBytes (r : Raw) (bytes : List ℕ) : Type 0 where

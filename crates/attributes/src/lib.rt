@@ -11,17 +11,45 @@ ghost use Rattle.attributes.specs.Bodies.{bodyRight, allRight};
 ghost use Rattle.attributes.specs.Finding.{findOf};
 use aspath::Width;
 
+// The codes of the types that are looked at.
+pub const ORIGIN: u8 = 1;
+
+pub const AS_PATH: u8 = 2;
+
+pub const NEXT_HOP: u8 = 3;
+
+pub const ATOMIC_AGGREGATE: u8 = 6;
+
+// The values of an ORIGIN.
+pub const IGP: u32 = 0;
+
+pub const EGP: u32 = 1;
+
+pub const INCOMPLETE: u32 = 2;
+
+pub const ORIGIN_SIZE: usize = 1;
+
+pub const NEXT_HOP_SIZE: usize = 4;
+
+// The flag that makes an attribute's length two bytes.
+const EXTENDED_LENGTH: u32 = 0x10;
+
+// The flags and the code, before the length.
+const TYPE_SIZE: usize = 2;
+
+const CODE_AT: usize = 1;
+
 // Where the body of an attribute stands in its section.
 pub enum Found {
     At { start: usize, len: usize },
     Absent,
 }
 
-// The flag 0x10 makes the length two bytes.
+// The bytes of an attribute's length.
 fn length_width(flags: u32) -> usize
     ensures { λ r. ⌜ (r ≡ lengthWidth flags) × (r ≤ 2) ⌝ }
 {
-    if flags / 16 % 2 == 1 {
+    if flags / EXTENDED_LENGTH % 2 == 1 {
         return 2;
     }
     1
@@ -31,7 +59,7 @@ fn length_width(flags: u32) -> usize
 fn header_size(s: &[u8], at: usize) -> usize
     ensures { λ r. ⌜ (r ≡ attributeHeader (drop at (now (s .entry)))) × (r ≤ 4) ⌝ }
 {
-    2 + length_width(octets::number(s, at, 1))
+    TYPE_SIZE + length_width(octets::number(s, at, 1))
 }
 
 // The bytes of that body, as its length says.
@@ -40,7 +68,7 @@ fn body_size(s: &[u8], at: usize) -> usize
     ensures { λ r. ⌜ (r ≡ bodySize (drop at (now (s .entry)))) × (r < 65536) ⌝ }
 {
     let width = length_width(octets::number(s, at, 1));
-    octets::number(s, at + 2, width) as usize
+    octets::number(s, at + TYPE_SIZE, width) as usize
 }
 
 // The bytes of the attribute at a place, 0 where no whole one stands there.
@@ -84,7 +112,7 @@ pub fn sound(s: &[u8]) -> bool
         if size == 0 {
             return false;
         }
-        let code = octets::number(s, at + 1, 1);
+        let code = octets::number(s, at + CODE_AT, 1);
         let word = (code / 64) as usize;
         let marks = seen[word];
         if marked(marks, code % 64) {
@@ -97,19 +125,19 @@ pub fn sound(s: &[u8]) -> bool
 }
 
 // Whether the body of an attribute is as its code asks: ORIGIN, AS_PATH, NEXT_HOP and ATOMIC_AGGREGATE are looked at, others are free.
-fn body_right(code: u32, body: &[u8], width: Width) -> bool
+fn body_right(code: u8, body: &[u8], width: Width) -> bool
     ensures { λ r. ⌜ r ≡ bodyRight (widthBytes width) code (now (body .entry)) ⌝ }
 {
     match code {
-        1 => {
-            if body.len() != 1 {
+        ORIGIN => {
+            if body.len() != ORIGIN_SIZE {
                 return false;
             }
-            body[0] <= 2
+            body[0] as u32 <= INCOMPLETE
         }
-        2 => aspath::well_formed(body, width),
-        3 => body.len() == 4,
-        6 => body.len() == 0,
+        AS_PATH => aspath::well_formed(body, width),
+        NEXT_HOP => body.len() == NEXT_HOP_SIZE,
+        ATOMIC_AGGREGATE => body.len() == 0,
         _ => true,
     }
 }
@@ -124,7 +152,7 @@ pub fn bodies_right(s: &[u8], width: Width) -> bool
         if size == 0 {
             return true;
         }
-        let code = octets::number(s, at + 1, 1);
+        let code = s[at + CODE_AT];
         let start = at + header_size(s, at);
         let end = at + size;
         if !body_right(code, &s[start..end], width) {
@@ -145,7 +173,7 @@ pub fn find(s: &[u8], code: u8) -> Found
         if size == 0 {
             return Found::Absent;
         }
-        if s[at + 1] == code {
+        if s[at + CODE_AT] == code {
             let start = at + header_size(s, at);
             let len = body_size(s, at);
             return Found::At { start, len };

@@ -30,7 +30,7 @@ use Rattle.claims.specs.DemandOne.{OfText, verdict, refusal, OfRecord, D
 
 module _ {text buffer : List ℕ} where
   -- by the answer, where no other is given
-  of-text : (o : texts.Outcome) → texts.Answers text (length buffer) o → ((p : texts.Outcome) → texts.Answers text (length buffer) p → o ≡ p)
+  of-text : (o : texts.TextOutcome) → texts.TextAnswers text (length buffer) o → ((p : texts.TextOutcome) → texts.TextAnswers text (length buffer) p → o ≡ p)
       → OfText text buffer (functions.compiling o buffer)
   of-text (texts.compiled r) a only = record {
     numbered = omega arith;
@@ -48,8 +48,8 @@ module _ {text buffer : List ℕ} where
     refuses = λ why place. (
       λ e. rw (← filter.number-one m why (e .0), ← e .1) a,
       λ b. (
-        ap (λ (o : texts.Outcome). functions.compiling o buffer .number) (only (texts.refused why place) b),
-        ap (λ (o : texts.Outcome). functions.compiling o buffer .value) (only (texts.refused why place) b),
+        ap (λ (o : texts.TextOutcome). functions.compiling o buffer .number) (only (texts.refused why place) b),
+        ap (λ (o : texts.TextOutcome). functions.compiling o buffer .value) (only (texts.refused why place) b),
       ),
     );
     leaves = λ h. refl;
@@ -79,11 +79,11 @@ as-it-was Lines none h = refl
 as-it-was Lines (some t) h = refl
 
 module _ (program bytes lines : List ℕ) (counting : Option Tally) where
-  abbrev Given : records.Outcome → Type 1
-  Given o = records.Answers program bytes (length lines) counting o
+  abbrev Given : records.RecordOutcome → Type 1
+  Given o = records.RecordAnswers program bytes (length lines) counting o
 
   -- a verdict is no refusal
-  of-verdict : (o : records.Outcome) → Given o → saidOf o .0 ≤ 1 → ((why : Refusal) → Given (records.refused why) → ⊥)
+  of-verdict : (o : records.RecordOutcome) → Given o → saidOf o .0 ≤ 1 → ((why : Refusal) → Given (records.refused why) → ⊥)
       → OfRecord program bytes lines counting (judgement o lines counting)
   of-verdict o a small no-refusal = record {
     numbered = verdict small;
@@ -98,16 +98,16 @@ module _ (program bytes lines : List ℕ) (counting : Option Tally) where
   }
 
   -- by the answer, where no other is given
-  of-record : (o : records.Outcome) → Given o → ((p : records.Outcome) → Given p → o ≡ p) → OfRecord program bytes lines counting (judgement o lines counting)
+  of-record : (o : records.RecordOutcome) → Given o → ((p : records.RecordOutcome) → Given p → o ≡ p) → OfRecord program bytes lines counting (judgement o lines counting)
   unfolding records.numberOf
-  of-record (records.kept steps text) a only =
-      of-verdict (records.kept steps text) a (omega arith) (λ why b. let z : _≡_ {A = ℕ} 0 1 = cc (only (records.refused why) b) in omega arith)
-  of-record (records.dropped steps) a only =
-      of-verdict (records.dropped steps) a (omega arith) (λ why b. let z : _≡_ {A = ℕ} 0 1 = cc (only (records.refused why) b) in omega arith)
+  of-record (records.kept spent text) a only =
+      of-verdict (records.kept spent text) a (omega arith) (λ why b. let z : _≡_ {A = ℕ} 0 1 = cc (only (records.refused why) b) in omega arith)
+  of-record (records.dropped spent) a only =
+      of-verdict (records.dropped spent) a (omega arith) (λ why b. let z : _≡_ {A = ℕ} 0 1 = cc (only (records.refused why) b) in omega arith)
   of-record (records.refused m) a only = record {
     numbered = refusal (number-between m .0) (number-between m .1);
     refuses = λ why.
-        (λ e. rw (← number-one m why e) a, λ b. ap (λ (o : records.Outcome). saidOf o .0) (only (records.refused why) b));
+        (λ e. rw (← number-one m why e) a, λ b. ap (λ (o : records.RecordOutcome). saidOf o .0) (only (records.refused why) b));
     leaves = λ h. (refl, refl);
     counts = λ h k. one-more m counting k;
     uncounted = λ h. as-it-was m counting h;

@@ -16,7 +16,8 @@ use Rattle.message.specs.Message.{Message}
 use Rattle.message.specs.Represents.{Represents}
 use Rattle.message.proofs.ReadableRecords.{readable-represents, represents-readable}
 use Rattle.line.specs.Line.{linesOf}
-use Rattle.program.specs.Readings.{Reading, weight, verdict, steps}
+use Rattle.program.specs.declared.Spent.{Spent}
+use Rattle.program.specs.Readings.{Reading, weight, verdict, spent}
 use Rattle.program.specs.Records.{weightLimit}
 use Rattle.program.specs.Layout.{recordSize}
 use Rattle.program.specs.Compiling.{records, programOf}
@@ -24,13 +25,13 @@ use Rattle.program.proofs.LayoutLaws.{encodeAll-length}
 use Rattle.program.proofs.MachineLaws.{length-records}
 use Rattle.program.proofs.ReadingValid.{records-possible}
 use Rattle.truth.specs.Means.{isTrue}
-use Rattle.truth.specs.Verdict.{Keeps, Drops, HasVerdict, Steps}
+use Rattle.truth.specs.Verdict.{Keeps, Drops, HasVerdict, Spends}
 use Rattle.truth.proofs.Addresses.{OperandsAddressed, represented-addressed, reading-addressed}
 use Rattle.truth.proofs.Machines.{machine-exactly}
-use Rattle.truth.proofs.StepCounts.{steps-exactly, few-steps}
+use Rattle.truth.proofs.Spending.{spends-exactly, few-steps}
 use Rattle.truth.proofs.Verdicts.{verdict-exactly}
 use Rattle.token.proofs.Lexing.{lexes-once}
-use Rattle.filter.specs.Answers.{Derived, Outcome, compiled, refused, Answers}
+use Rattle.filter.specs.Answers.{Derived, TextOutcome, compiled, refused, TextAnswers}
 use Rattle.filter.specs.Answers as words
 use Rattle.filter.specs.Answering.{answer}
 use Rattle.filter.specs.Functions.{Compiling, reported, compiling, ourCompiler}
@@ -58,16 +59,16 @@ one-reading {r = r} {s} d e = by-tokens (lexes-once (d .lexed) (e .lexed))
     by-tokens p = complete.one-reading (d .reads) (rw p (e .reads))
 
 -- an answer of 0 is a program
-compiled-only : (o : Outcome) (buffer : List ℕ) → compiling o buffer .number ≡ 0 → (r : Reading) × (o ≡ compiled r)
+compiled-only : (o : TextOutcome) (buffer : List ℕ) → compiling o buffer .number ≡ 0 → (r : Reading) × (o ≡ compiled r)
 compiled-only (compiled r) buffer e = (r, refl)
 compiled-only (refused why p) buffer e = absurd (omega (arith, number-between why))
 
 -- and what the words ask for then
-pub compiled-compiles : {text : List ℕ} {room : ℕ} {r : Reading} → Answers text room (compiled r) → Compiles text room
+pub compiled-compiles : {text : List ℕ} {room : ℕ} {r : Reading} → TextAnswers text room (compiled r) → Compiles text room
 compiled-compiles (words.compiles {r} f d w l) = record { fine = f; reading = r; derives = d; light = w; fits = l }
 
 -- the reading is the text's
-compiled-reading : {text : List ℕ} {room : ℕ} {r s : Reading} → Answers text room (compiled r) → Derived text s → (r ≡ s) × (weight r ≤ weightLimit)
+compiled-reading : {text : List ℕ} {room : ℕ} {r s : Reading} → TextAnswers text room (compiled r) → Derived text s → (r ≡ s) × (weight r ≤ weightLimit)
 compiled-reading (words.compiles f d w l) e = (one-reading (d .derived) e, w)
 
 -- a program's bytes
@@ -89,7 +90,7 @@ module _ (text buffer : List ℕ) where
           compiled-compiles (rw (x .1) at (answer-given text (length buffer)))
 
       back : Compiles text (length buffer) → ourCompiler text buffer .number ≡ 0
-      back c = ap (λ (o : Outcome). compiling o buffer .number) (only-answer text (length buffer) (words.compiles (c .fine) (c .derives) (c .light) (c .fits)))
+      back c = ap (λ (o : TextOutcome). compiling o buffer .number) (only-answer text (length buffer) (words.compiles (c .fine) (c .derives) (c .light) (c .fits)))
 
   -- the answer is the text's reading
   reading-is : {r : Reading} → ourCompiler text buffer .number ≡ 0 → Derived text r → (answer text (length buffer) ≡ compiled r) × (weight r ≤ weightLimit)
@@ -112,7 +113,7 @@ module _ (text buffer : List ℕ) where
   -- judging with them gives the verdict of the reading
   pub judges : {r : Reading} → ourCompiler text buffer .number ≡ 0 → Derived text r → {m : Message} {bytes : List ℕ} → Represents m bytes
       → {counting : Option Tally} → (FullTally counting → ⊥) → (room : ℕ) {b : Bool} → verdict (isTrue m) r ≡ b
-      → judgeOf (reported (ourCompiler text buffer)) bytes room counting ≡ judgedBy room m (b, steps (isTrue m) r)
+      → judgeOf (reported (ourCompiler text buffer)) bytes room counting ≡ judgedBy room m (b, spent (isTrue m) r)
   judges {r} e d x f room h = rw (reported-is e d) (reading-judged r (reads-possible (d .reads)) (reading-is e d .1) x f room h)
 
   -- where the text compiles, the record is judged
@@ -120,27 +121,27 @@ module _ (text buffer : List ℕ) where
       → judgedWith ourJudge (ourCompiler text buffer) bytes lines counting ≡ some (ourJudge (reported (ourCompiler text buffer)) bytes lines counting)
   judged-with bytes lines counting e = rw (eq-eqb _ _ e)
 
--- ---- the verdict and the steps of judging, by the verdict that is computed
+-- ---- the verdict and what is spent of judging, by the verdict that is computed
 
 -- what is kept or has no room isn't dropped
-pub not-dropped : (b : Bool) (n : ℕ) (lines : List ℕ) → saidOf (pick b (judge-refused Lines) (kept n lines)) .0 ≡ 0 → ⊥
+pub not-dropped : (b : Bool) (n : Spent) (lines : List ℕ) → saidOf (pick b (judge-refused Lines) (kept n lines)) .0 ≡ 0 → ⊥
 unfolding numberOf
 not-dropped true n lines e = omega arith
 not-dropped false n lines e = omega arith
 
-module _ {r : Reading} {m : Message} (lines : List ℕ) (counting : Option Tally) (count : ℕ) (counted : (n : ℕ) → (count ≡ n) ↔ Steps m r n)
+module _ {r : Reading} {m : Message} (lines : List ℕ) (counting : Option Tally) (count : Spent) (counted : (n : Spent) → (count ≡ n) ↔ Spends m r n)
     (told : (b : Bool) → (verdict (isTrue m) r ≡ b) ↔ HasVerdict m r b) where
   abbrev answer-by : Bool → Judging
   answer-by b = judgement (judgedBy (length lines) m (b, count)) lines counting
 
   -- kept, where there is room
-  keeps-by : (b : Bool) → verdict (isTrue m) r ≡ b → length (linesOf m) ≤ length lines → {n : ℕ}
-      → ((answer-by b .number ≡ 1) × (answer-by b .steps ≡ n)) ↔ (Keeps m r × Steps m r n)
+  keeps-by : (b : Bool) → verdict (isTrue m) r ≡ b → length (linesOf m) ≤ length lines → {n : Spent}
+      → ((answer-by b .number ≡ 1) × (answer-by b .spent ≡ n)) ↔ (Keeps m r × Spends m r n)
   keeps-by true e h {n} = rw (le-ltb (length lines) (length (linesOf m)) h) (λ x. (told true .0 e, counted n .0 (x .1)), λ y. (refl, counted n .1 (y .1)))
   keeps-by false e h = (λ x. absurd (omega (arith, x .0)), λ y. absurd (never (sym e ∙ told true .1 (y .0))))
 
   -- dropped
-  drops-by : (b : Bool) → verdict (isTrue m) r ≡ b → {n : ℕ} → ((answer-by b .number ≡ 0) × (answer-by b .steps ≡ n)) ↔ (Drops m r × Steps m r n)
+  drops-by : (b : Bool) → verdict (isTrue m) r ≡ b → {n : Spent} → ((answer-by b .number ≡ 0) × (answer-by b .spent ≡ n)) ↔ (Drops m r × Spends m r n)
   drops-by true e =
       (λ x. absurd (not-dropped (ltb (length lines) (length (linesOf m))) count (linesOf m) (x .0)), λ y. absurd (never (sym (told false .1 (y .0)) ∙ e)))
   drops-by false e {n} = (λ x. (told false .0 e, counted n .0 (x .1)), λ y. (refl, counted n .1 (y .1)))
@@ -154,12 +155,12 @@ module _ (text buffer bytes lines : List ℕ) (counting : Option Tally) {r : Rea
   judged-so : JudgedSo r m lines counting (ourCompiler text buffer) (ourJudge (reported (ourCompiler text buffer)) bytes lines counting)
   judged-so =
       let v : (b : Bool) → (verdict (isTrue m) r ≡ b) ↔ HasVerdict m r b = λ b. verdict-exactly (represented-addressed x) r operands in
-      let s : (n : ℕ) → (steps (isTrue m) r ≡ n) ↔ Steps m r n = λ n. steps-exactly (represented-addressed x) r operands in
+      let s : (n : Spent) → (spent (isTrue m) r ≡ n) ↔ Spends m r n = λ n. spends-exactly (represented-addressed x) r operands in
       record {
         machine-gives = rw (reported-is text buffer e d)
             (machine-exactly (represented-addressed x) operands (records-possible r (reads-possible (d .reads)) (reading-is text buffer e d .1)));
-        judging-keeps = λ f l. rw (judges text buffer e d x f (length lines) refl) (keeps-by lines counting (steps (isTrue m) r) s v (verdict (isTrue m) r) refl l);
-        judging-drops = λ f. rw (judges text buffer e d x f (length lines) refl) (drops-by lines counting (steps (isTrue m) r) s v (verdict (isTrue m) r) refl);
+        judging-keeps = λ f l. rw (judges text buffer e d x f (length lines) refl) (keeps-by lines counting (spent (isTrue m) r) s v (verdict (isTrue m) r) refl l);
+        judging-drops = λ f. rw (judges text buffer e d x f (length lines) refl) (drops-by lines counting (spent (isTrue m) r) s v (verdict (isTrue m) r) refl);
         few = few-steps;
       }
 

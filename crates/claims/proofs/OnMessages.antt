@@ -13,7 +13,8 @@ use Rattle.octets.proofs.Choices.{never}
 use Rattle.message.specs.Message.{Message}
 use Rattle.message.specs.Represents.{Represents}
 use Rattle.line.specs.Line.{linesOf}
-use Rattle.program.specs.Readings.{Reading, verdict, steps}
+use Rattle.program.specs.declared.Spent.{Spent}
+use Rattle.program.specs.Readings.{Reading, verdict, spent}
 use Rattle.truth.specs.Means.{isTrue}
 use Rattle.truth.specs.Verdict.{HasVerdict}
 use Rattle.truth.proofs.Addresses.{represented-addressed, reading-addressed}
@@ -29,7 +30,7 @@ use Rattle.claims.specs.DemandTwo.{OnMessage}
 use Rattle.claims.proofs.DemandThree.{judges, not-dropped}
 
 -- by the verdict
-module _ (r : Reading) (m : Message) (lines : List ℕ) (counting : Option Tally) (n : ℕ)
+module _ (r : Reading) (m : Message) (lines : List ℕ) (counting : Option Tally) (n : Spent)
     (told : (b : Bool) → (verdict (isTrue m) r ≡ b) ↔ HasVerdict m r b) where
   by-verdict : (b : Bool) → verdict (isTrue m) r ≡ b → OnMessage r m lines (judgement (judgedBy (length lines) m (b, n)) lines counting)
   by-verdict true e = record {
@@ -52,4 +53,4 @@ pub on-message : (text buffer : List ℕ) {r : Reading} → ourCompiler text buf
 on-message text buffer {r} e d {m} x lines counting f =
     let p = reading-addressed r (reads-possible (d .reads)) in
     rw (judges text buffer e d x f (length lines) refl)
-    (by-verdict r m lines counting (steps (isTrue m) r) (λ b. verdict-exactly (represented-addressed x) r p) (verdict (isTrue m) r) refl)
+    (by-verdict r m lines counting (spent (isTrue m) r) (λ b. verdict-exactly (represented-addressed x) r p) (verdict (isTrue m) r) refl)

@@ -7,17 +7,21 @@ use mathlib.Core.List.{List, [], _∷_, _++_}
 use mathlib.Core.Option.{some, none}
 use lib.ListN.{length, getD, drop, replicate, length-replicate}
 use borrow.Author.Tests.{eq-eqb}
+use Rattle.octets.specs.Lists.{some-here}
 use Rattle.octets.proofs.Choices.{never}
+use Rattle.octets.proofs.Some.{at-within}
 use Rattle.aspath.specs.declared.Width.the-variants.{Four}
-use Rattle.aspath.specs.Bogons.{bogons}
+use Rattle.aspath.specs.Members.{Member, itself}
+use Rattle.aspath.specs.Bogons.{range, bogons}
 use Rattle.message.specs.Message.{Message}
 use Rattle.message.specs.Represents.{Represents}
 use Rattle.line.specs.Line.{linesOf}
-use Rattle.program.specs.Readings.{hasLoop, hasBogon, and, Reading, test, neg, joint, itemCount, weight, steps}
+use Rattle.program.specs.Spent.{spending}
+use Rattle.program.specs.Readings.{hasLoop, hasBogon, and, Reading, test, neg, joint, itemCount, weight, spent}
 use Rattle.program.specs.Layout.{recordSize}
 use Rattle.program.specs.Compiling.{programOf}
 use Rattle.truth.specs.Means.{Means, loop, bogon, isTrue}
-use Rattle.truth.specs.Verdict.{Drops, is-true, is-false, right-drops, and-kept, Steps, of-test, of-both}
+use Rattle.truth.specs.Verdict.{Drops, is-true, is-false, right-drops, and-kept, Spends, of-test, of-both}
 use Rattle.truth.proofs.Addresses.{represented-addressed, reading-addressed}
 use Rattle.truth.proofs.Meanings.{path-one}
 use Rattle.truth.proofs.Verdicts.{verdict-exactly}
@@ -111,7 +115,7 @@ module _ {Verdict : Message → Reading → Type 0} {text : List ℕ} {r : Readi
         → OnMessage r messageR lines (judge (reported (compiler text buffer)) recordR lines none)
     on-R other runner c d lines = d .on-message {buffer = buffer} (number-is compiler other c) (t .derives .derived) record-represents lines none uncounted
 
-    -- and of its verdict and steps on any message
+    -- and of its verdict and what it spends on any message
     pub judged-on : DemandThree compiler judge → {m : Message} {bytes : List ℕ} → Represents m bytes → (lines : List ℕ)
         → JudgedSo r m lines none (compiler text buffer) (judge (reported (compiler text buffer)) bytes lines none)
     judged-on d {bytes = bytes} x lines =
@@ -121,7 +125,7 @@ module _ {Verdict : Message → Reading → Type 0} {text : List ℕ} {r : Readi
         rw same (y .2)
 
 -- judging R with `-loops` drops it
-pub loops-drop : judgeOf (programOf (test hasLoop)) recordR 0 (some none-seen) ≡ dropped (steps (isTrue messageR) (test hasLoop))
+pub loops-drop : judgeOf (programOf (test hasLoop)) recordR 0 (some none-seen) ≡ dropped (spent (isTrue messageR) (test hasLoop))
 loops-drop =
     let p = reads-possible (loops .derives .derived .reads) in
     reading-judged (test hasLoop) p (omega (arith, few-loops)) record-represents room-to-count 0 {b = false}
@@ -145,21 +149,17 @@ zero-represents = zero-sent .represents
 has-bogon : Means zero-message hasBogon
 unfolding bogons
 has-bogon = bogon (zero-sent .path) (record {
-  n = 0;
-  place = 0;
-  within = omega arith;
-  holds = record { equal = refl };
-  bogon = record { row = 0; within = omega arith; above = omega arith; below = omega arith };
+  some = some-here (record { n = 0; holds = itself; is = record { listed = some-here {a = range 0 0} (record { above = omega arith; below = omega arith }) } });
 })
 
 no-loop : Means zero-message hasLoop → ⊥
 no-loop (loop {members} h l) = by-path (path-one h (zero-sent .path))
   where
-    by-path : members ≡ 0 ∷ [] → ⊥
-    by-path e = omega (arith, ap length e, l .before, l .after, l .within)
+    by-path : {m : Member} → members ≡ m ∷ [] → ⊥
+    by-path e = omega (arith, ap length e, l .before, l .after, at-within (l .returns))
 
 pub zero-drops : Drops zero-message (joint and (test hasBogon) (test hasLoop))
 zero-drops = right-drops (is-false no-loop)
 
-pub zero-steps : Steps zero-message (joint and (test hasBogon) (test hasLoop)) 3
+pub zero-steps : Spends zero-message (joint and (test hasBogon) (test hasLoop)) (spending 3)
 zero-steps = of-both of-test (and-kept (is-true has-bogon)) of-test

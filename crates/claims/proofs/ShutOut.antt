@@ -5,14 +5,15 @@ use mathlib.Core.Path.{_≡_, refl, sym, ap, _∙_}
 use mathlib.Core.List.{List, [], _∷_, _++_}
 use mathlib.Core.Option.{Option, some, none}
 use lib.ListN.{length, getD, replicate}
-use Rattle.octets.specs.Header.{headerSize}
+use Rattle.header.specs.Header.{headerSize}
 use Rattle.octets.specs.Numbers.{numberAt, bytesOf}
 use Rattle.message.specs.Message.{Message}
 use Rattle.message.proofs.RecordOctets.{represents-octets}
 use Rattle.line.specs.Text.{separated}
 use Rattle.line.specs.Line.{lineOf, linesOf}
-use Rattle.program.specs.Readings.{hasLoop, Reading, test, weight, steps}
-use Rattle.program.specs.Layout.{fieldsOf, laid, encodeAll}
+use Rattle.program.specs.Readings.{hasLoop, Reading, test, weight, spent}
+use Rattle.program.specs.declared.Spent.{Spent}
+use Rattle.program.specs.Layout.{headFields, fieldsOf, laid, encodeAll}
 use Rattle.program.specs.Compiling.{headOf, itemsOf, records, programOf}
 use Rattle.program.proofs.ProgramOctets.{program-octets}
 use Rattle.walk.specs.declared.Step.{Step}
@@ -49,7 +50,7 @@ module _ (compiler : Compiler) (judge : Judge) where
 
   -- one that gives one program for every text: it would be that of `-loops` and that of `-bogon-asn`
   pub one-program : {program : List ℕ} → OneProgram program compiler → DemandThree compiler judge → ⊥
-  unfolding encodeAll laid fieldsOf bytesOf records headOf itemsOf
+  unfolding encodeAll laid headFields fieldsOf bytesOf records headOf itemsOf
   one-program {program} wrong d =
       let e : _≡_ {A = ℕ} 6 7 = ap (λ (l : List ℕ). getD l 0 0) (sym (only loops few-loops) ∙ only bogon few-bogon) in
       omega arith
@@ -89,15 +90,16 @@ module _ (compiler : Compiler) (judge : Judge) where
       let steps : ℕ = count (reported (compiler bogonAndLoopsText buffer)) [] none in
       let on-R = judged-on bogon-and-loops few-both compiler judge d record-represents [] in
       let on-zero = judged-on bogon-and-loops few-both compiler judge d zero-represents [] in
-      let two : steps ≡ 2 = sym (wrong _ _ _ _) ∙ on-R .judging-drops uncounted .1 (bogon-and-loops .verdict, bogon-and-loops .counted) .1 in
-      let three : steps ≡ 3 = sym (wrong _ _ _ _) ∙ on-zero .judging-drops uncounted .1 (zero-drops, zero-steps) .1 in
+      let steps-of : Spent → ℕ = λ s. s .steps in
+      let two : steps ≡ 2 = sym (wrong _ _ _ _) ∙ ap steps-of (on-R .judging-drops uncounted .1 (bogon-and-loops .verdict, bogon-and-loops .counted) .1) in
+      let three : steps ≡ 3 = sym (wrong _ _ _ _) ∙ ap steps-of (on-zero .judging-drops uncounted .1 (zero-drops, zero-steps) .1) in
       omega arith
 
   -- one that counts nothing: `-loops` drops R, which is one seen
   pub counts-nothing : CountsNothing judge → DemandOne compiler judge → ⊥
   counts-nothing wrong d =
       let x = d .records (programOf (test hasLoop)) recordR [] (some none-seen) (program-octets (test hasLoop)) (represents-octets record-represents) in
-      let e : x .answer ≡ dropped (steps (isTrue messageR) (test hasLoop)) =
+      let e : x .answer ≡ dropped (spent (isTrue messageR) (test hasLoop)) =
       sym (only-judged (program-octets (test hasLoop)) (represents-octets record-represents) (x .given)) ∙ loops-drop in
       let same : some (oneDropped none-seen) ≡ some none-seen = sym (rw e at (ap tally-of (x .is))) ∙ wrong _ _ _ _ in
       let z : _≡_ {A = ℕ} 1 0 = ap seen-of same in

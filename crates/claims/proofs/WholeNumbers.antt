@@ -23,7 +23,7 @@ use Rattle.claims.specs.DemandTwo.{Whole}
 
 -- a sequence of a number alone
 abbrev segment : ℕ → Segment
-segment n = record { kind = sequence; numbers = n ∷ [] }
+segment n = record { type = sequence; numbers = n ∷ [] }
 
 -- an UPDATE from that peer, with that path and nothing more
 abbrev sent : Width → ℕ → Message
@@ -32,7 +32,7 @@ sent w n = record {
   width = w;
   peerAs = n;
   peerAddress = 0;
-  kind = update;
+  type = update;
   withdrawn = [];
   attributes = asPath (segment n ∷ []) ∷ [];
   announced = [];
@@ -62,7 +62,7 @@ module _ (w : Width) (n : ℕ) (h : n < 256 ^ widthBytes w) where
     seconds = omega arith;
     peerAs = h;
     peerAddress = omega arith;
-    kind = omega arith;
+    type = omega arith;
     body = for-update refl (record {
       withdrawn = every-none;
       attributes = every-more {a = asPath (segment n ∷ [])} (every-more encodable every-none, omega (arith, narrow w)) every-none;

@@ -12,8 +12,8 @@ use Rattle.octets.specs.Numbers.{Octets}
 use Rattle.message.specs.Message.{Message}
 use Rattle.message.specs.Represents.{Represents}
 use Rattle.program.specs.Readings.{Test}
-use Rattle.program.specs.Records.{Record, Possible}
-use Rattle.program.specs.Compiling.{headOf, itemsOf}
+use Rattle.program.specs.Records.{Record, PossibleHead, Possible}
+use Rattle.program.specs.Compiling.{headOf, followingOf}
 use Rattle.truth.specs.Means.{Means}
 use Rattle.truth.specs.Records.{recordTruth}
 use Rattle.filter.specs.declared.Refusal.{Refusal as TextRefusal}
@@ -33,12 +33,12 @@ pub record OfText (text buffer : List ℕ) (c : Compiling) : Type 0 where
   pub numbered : c .number ≤ 8
   -- "Each refusal has its number, given exactly when the paper says": 1 to 8, each at its place
   pub refuses : (why : TextRefusal) (place : ℕ)
-      → ((c .number ≡ texts.numberOf why) × (c .value ≡ place)) ↔ texts.Answers text (length buffer) (texts.refused why place)
+      → ((c .number ≡ texts.numberOf why) × (c .value ≡ place)) ↔ texts.TextAnswers text (length buffer) (texts.refused why place)
   -- ".. and a refusal writes nothing"
   pub leaves : 1 ≤ c .number → c .buffer ≡ buffer
   -- the whole of it is an answer that the words give
-  pub answer : texts.Outcome
-  pub given : texts.Answers text (length buffer) answer
+  pub answer : texts.TextOutcome
+  pub given : texts.TextAnswers text (length buffer) answer
   pub is : c ≡ compiling answer buffer
 
 -- the numbers of judging: 0 dropped, 1 kept, 11 to 21 a refusal
@@ -51,7 +51,8 @@ pub record OfRecord (program bytes lines : List ℕ) (counting : Option Tally) (
   -- "it answers"
   pub numbered : JudgingNumber (j .number)
   -- "Each refusal has its number, given exactly when the paper says": 11 to 21
-  pub refuses : (why : Refusal) → (j .number ≡ records.numberOf why) ↔ records.Answers program bytes (length lines) counting (records.refused why)
+  pub refuses : (why : Refusal)
+      → (j .number ≡ records.numberOf why) ↔ records.RecordAnswers program bytes (length lines) counting (records.refused why)
   -- ".. and a refusal writes nothing but its count"
   pub leaves : 11 ≤ j .number → (j .lines ≡ lines) × (j .written ≡ 0)
   -- 11 to 18 are counted; 19, 20 and 21 aren't
@@ -61,8 +62,8 @@ pub record OfRecord (program bytes lines : List ℕ) (counting : Option Tally) (
   pub roomy : lineRoom ≤ length lines → j .number ≡ shortNumber → ⊥
   -- the whole of it is an answer that the words give: "The last flag is the verdict", of any valid program; "Judging with a tally adds one to seen
   -- and one to kept, dropped or, for 11 to 18, refused"
-  pub answer : records.Outcome
-  pub given : records.Answers program bytes (length lines) counting answer
+  pub answer : records.RecordOutcome
+  pub given : records.RecordAnswers program bytes (length lines) counting answer
   pub is : j ≡ judgement answer lines counting
 
 -- "Hand it any text, any program bytes, any record, any buffer size"
@@ -73,5 +74,5 @@ pub record DemandOne (compiler : Compiler) (judge : Judge) : Type 1 where
   -- 20, "every record is one that compiling some text could give": what a valid program's records are held to is just that
   pub possible : (r : Record) → Possible r ↔ Given r
   -- the truth of a test that the machine asks for is what the test means on the message
-  pub truthful : {m : Message} {bytes : List ℕ} → Represents m bytes → (t : Test) → Possible (headOf t)
-      → (recordTruth m (headOf t) (itemsOf t) ≡ true) ↔ Means m t
+  pub truthful : {m : Message} {bytes : List ℕ} → Represents m bytes → (t : Test) → PossibleHead (headOf t)
+      → (recordTruth m (headOf t) (followingOf t) ≡ true) ↔ Means m t

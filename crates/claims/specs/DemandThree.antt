@@ -11,13 +11,14 @@ use Rattle.message.specs.Message.{Message}
 use Rattle.message.specs.Represents.{Represents}
 use Rattle.message.specs.Refusals.{Readable}
 use Rattle.line.specs.Line.{linesOf}
+use Rattle.program.specs.declared.Spent.{Spent}
 use Rattle.program.specs.Readings.{Reading, weight}
 use Rattle.program.specs.Records.{weightLimit}
 use Rattle.program.specs.Layout.{recordSize}
 use Rattle.program.specs.Compiling.{programOf}
 use Rattle.program.specs.Machine.{machine}
 use Rattle.truth.specs.Records.{recordTruth}
-use Rattle.truth.specs.Verdict.{Keeps, Drops, HasVerdict, Steps}
+use Rattle.truth.specs.Verdict.{Keeps, Drops, HasVerdict, Spends}
 use Rattle.token.specs.Tokens.{Placed, Lexes}
 use Rattle.filter.specs.Answers.{Fine, Derived, DerivedWithin}
 use Rattle.filter.specs.Refused.{FirstRefused}
@@ -40,13 +41,13 @@ pub record Compiles (text : List ℕ) (room : ℕ) : Type 0 where
 -- what is claimed of the reading of a text that compiles, of a readable record's message, and of judging it with the reported bytes
 pub record JudgedSo (r : Reading) (m : Message) (lines : List ℕ) (counting : Option Tally) (c : Compiling) (j : Judging) : Type 0 where
   -- "the paper's machine .. give[s] exactly the reading's verdict and steps on that record", which has therefore one verdict and one number of steps
-  pub machine-gives : {b : Bool} {n : ℕ} → (machine (recordTruth m) (reported c) ≡ (b, n)) ↔ (HasVerdict m r b × Steps m r n)
+  pub machine-gives : {b : Bool} {s : Spent} → (machine (recordTruth m) (reported c) ≡ (b, s)) ↔ (HasVerdict m r b × Spends m r s)
   -- "with no full tally and, if the reading keeps it, room for its lines, .. the judging .. give[s] exactly the reading's verdict and steps"
-  pub judging-keeps : (FullTally counting → ⊥) → length (linesOf m) ≤ length lines → {n : ℕ}
-      → ((j .number ≡ 1) × (j .steps ≡ n)) ↔ (Keeps m r × Steps m r n)
-  pub judging-drops : (FullTally counting → ⊥) → {n : ℕ} → ((j .number ≡ 0) × (j .steps ≡ n)) ↔ (Drops m r × Steps m r n)
+  pub judging-keeps : (FullTally counting → ⊥) → length (linesOf m) ≤ length lines → {s : Spent}
+      → ((j .number ≡ 1) × (j .spent ≡ s)) ↔ (Keeps m r × Spends m r s)
+  pub judging-drops : (FullTally counting → ⊥) → {s : Spent} → ((j .number ≡ 0) × (j .spent ≡ s)) ↔ (Drops m r × Spends m r s)
   -- "the steps never more than the text's weight"
-  pub few : {n : ℕ} → Steps m r n → n ≤ weight r
+  pub few : {s : Spent} → Spends m r s → s .steps ≤ weight r
 
 -- the demand at a text, a program buffer, a record, a line buffer and a tally or none; c is what compiling answers, j what judging with the
 -- reported bytes does, if the text compiles

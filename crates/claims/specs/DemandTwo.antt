@@ -7,6 +7,7 @@ use mathlib.Core.Option.{Option}
 use lib.ListN.{length, drop}
 use Rattle.octets.specs.Numbers.{Octets}
 use Rattle.aspath.specs.declared.Width.{Width}
+use Rattle.aspath.specs.Members.{number as member}
 use Rattle.aspath.specs.Wire.{widthBytes}
 use Rattle.message.specs.Message.{Message}
 use Rattle.message.specs.Represents.{Represents}
@@ -43,7 +44,7 @@ pub record Whole (w : Width) (n : ℕ) : Type 0 where
   pub represents : Represents message record-bytes
   pub width : message .width ≡ w
   pub peer : message .peerAs ≡ n
-  pub path : HasPath message (n ∷ [])
+  pub path : HasPath message (member n ∷ [])
   pub only : {m : Message} → Represents m record-bytes → m ≡ message
 
 pub record DemandTwo (compiler : Compiler) (judge : Judge) (runner : Runner) : Type 1 where

@@ -1,5 +1,5 @@
--- The walk, as a claim about a walker. The paper: "Each step hands out the next whole record, in order; or done when nothing remains; or cut, with the
--- bytes left, when 1 to 11 remain or the length runs past the end. After done or cut every further step answers the same."
+-- The walk, as a claim about a walker. The paper: "Each step hands out the next whole record, in order; or done when nothing remains; or cut,
+-- with the bytes left, when 1 to 11 remain or the length runs past the end. After done or cut every further step answers the same."
 use Prim.Native.Nat.{ℕ, _≤_, _<_}
 use mathlib.Core.Path.{_≡_}
 use mathlib.Core.List.{List, []}

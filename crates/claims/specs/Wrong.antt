@@ -29,7 +29,7 @@ WritesNothing judge = (program bytes lines : List ℕ) (counting : Option Tally)
 -- one whose step count is made up: any function of the program, the line buffer and the tally, whatever the record
 abbrev pub StepsMadeUp : (List ℕ → List ℕ → Option Tally → ℕ) → Judge → Type 0
 StepsMadeUp count judge = (program bytes lines : List ℕ) (counting : Option Tally)
-    → judge program bytes lines counting .steps ≡ count program lines counting
+    → judge program bytes lines counting .spent .steps ≡ count program lines counting
 
 -- one that counts nothing
 abbrev pub CountsNothing : Judge → Type 0

@@ -28,19 +28,20 @@ pub struct Answered {
 }
 
 // What judging answers, and the tally after it.
-struct Counted {
+struct JudgedCounting {
     judged: Judged,
     counting: Counting,
 }
 
 // Judges with a tally or none.
-fn judge_in(program: &[u8], bytes: &[u8], lines: &mut [u8], counting: Counting) -> Counted
-    ensures { λ r. ⌜ judgingOf (r .judged) (now (lines .exit)) (countingOf (r .counting)) ≡ ourJudge (now (program .entry)) (now (bytes .entry)) (now (lines .entry)) (countingOf counting) ⌝ }
+fn judge_in(program: &[u8], bytes: &[u8], lines: &mut [u8], counting: Counting) -> JudgedCounting
+    ensures { λ r. ⌜ judgingOf (r .judged) (now (lines .exit)) (countingOf (r .counting))
+        ≡ ourJudge (now (program .entry)) (now (bytes .entry)) (now (lines .entry)) (countingOf counting) ⌝ }
 {
     match counting {
         Counting::Without => {
             let judged = judge::judge(program, bytes, lines);
-            Counted {
+            JudgedCounting {
                 judged,
                 counting: Counting::Without,
             }
@@ -49,7 +50,7 @@ fn judge_in(program: &[u8], bytes: &[u8], lines: &mut [u8], counting: Counting) 
             let counted = judge::judge_with(program, bytes, lines, tally);
             let judged = counted.judged;
             let after = counted.tally;
-            Counted {
+            JudgedCounting {
                 judged,
                 counting: Counting::With(after),
             }
@@ -65,7 +66,8 @@ pub fn compile_and_judge(
     lines: &mut [u8],
     counting: Counting,
 ) -> Answered
-    ensures { λ r. ⌜ Claimed (now (text .entry)) (now (program .entry)) (now (bytes .entry)) (now (lines .entry)) (countingOf counting) (r .answer) (now (program .exit)) (now (lines .exit)) (countingOf (r .counting)) ⌝ }
+    ensures { λ r. ⌜ Claimed (now (text .entry)) (now (program .entry)) (now (bytes .entry)) (now (lines .entry))
+        (countingOf counting) (r .answer) (now (program .exit)) (now (lines .exit)) (countingOf (r .counting)) ⌝ }
 {
     let compiled = filter::compile(text, program);
     match compiled {

@@ -11,7 +11,7 @@ use Rattle.program.specs.Readings.{Reading}
 use Rattle.token.specs.Tokens.{Token}
 use Rattle.filter.specs.Grammar.{expression, Reads}
 use Rattle.filter.specs.Levels.{openAt, Open}
-use Rattle.filter.specs.Reader.{whole, depth, State, level, came, finish, start, walk}
+use Rattle.filter.specs.Reader.{whole, depth, ReaderState, level, came, finish, start, walk}
 use Rattle.filter.proofs.Walks.{walk-split, wider}
 use Rattle.filter.proofs.Complete.{derived-walks}
 use Rattle.filter.proofs.Counts.{levels, Peak, peak, levels-open}
@@ -19,7 +19,7 @@ use Rattle.filter.proofs.Located.{Located, located}
 use Rattle.filter.proofs.Leveled.{walk-within}
 
 -- the levels that a derivation counts after n tokens are those open in the reader
-count-level : (L : ℕ) (ts : List Token) (n : ℕ) (s : State) {r : Reading} → walk L start (take n ts) ≡ came s → (d : Reads expression ts r)
+count-level : (L : ℕ) (ts : List Token) (n : ℕ) (s : ReaderState) {r : Reading} → walk L start (take n ts) ≡ came s → (d : Reads expression ts r)
     → n ≤ length ts → openAt d n ≡ level s
 unfolding depth
 count-level L ts n s e d i = by-place (located M d whole n (omega arith) i)
@@ -34,23 +34,23 @@ count-level L ts n s e d i = by-place (located M d whole n (omega arith) i)
         omega (arith, f .counted, ap level h)
 
 -- the same, where the tokens are those before a continuation
-pub open-level : (L : ℕ) (ts more : List Token) (s : State) {r : Reading} → walk L start ts ≡ came s → (d : Reads expression (ts ++ more) r)
+pub open-level : (L : ℕ) (ts more : List Token) (s : ReaderState) {r : Reading} → walk L start ts ≡ came s → (d : Reads expression (ts ++ more) r)
     → openAt d (length ts) ≡ level s
 open-level L ts more s e d = count-level L (ts ++ more) (length ts) s (rw (take-append-seam ts more) e) d (omega (arith, length-append ts more))
 
 -- the state after the first tokens of what is derived
-pub reached : (L : ℕ) (ts more : List Token) {r : Reading} (d : Reads expression (ts ++ more) r) → levels d ≤ L → (s : State) × (walk L start ts ≡ came s)
+pub reached : (L : ℕ) (ts more : List Token) {r : Reading} (d : Reads expression (ts ++ more) r) → levels d ≤ L → (s : ReaderState) × (walk L start ts ≡ came s)
 reached L ts more {r} d l = by-walk (derived-walks L d l)
   where
-    by-walk : (s : State) × (walk L start (ts ++ more) ≡ came s) × (finish s ≡ some r) → (s : State) × (walk L start ts ≡ came s)
+    by-walk : (s : ReaderState) × (walk L start (ts ++ more) ≡ came s) × (finish s ≡ some r) → (s : ReaderState) × (walk L start ts ≡ came s)
     by-walk (s, e, f) = let (x, p, q) = walk-split L start ts more s e in (x, p)
 
 -- what is read within a limit has no derivation with more levels
-pub levels-within : (L : ℕ) (ts : List Token) (s : State) {r : Reading} → walk L start ts ≡ came s → (d : Reads expression ts r) → levels d ≤ L
+pub levels-within : (L : ℕ) (ts : List Token) (s : ReaderState) {r : Reading} → walk L start ts ≡ came s → (d : Reads expression ts r) → levels d ≤ L
 unfolding level depth
 levels-within L ts s e d = by-peak (peak d)
   where
-    by-split : (q : Peak (openAt d) (length ts) (levels d)) → (x : State) × (walk L start (take (q .place) ts) ≡ came x) × (walk L x (drop (q .place) ts) ≡ came s)
+    by-split : (q : Peak (openAt d) (length ts) (levels d)) → (x : ReaderState) × (walk L start (take (q .place) ts) ≡ came x) × (walk L x (drop (q .place) ts) ≡ came s)
         → levels d ≤ L
     by-split q (x, f, g) =
         let i : level x ≤ L = walk-within L start (take (q .place) ts) x (omega arith) f in
@@ -65,12 +65,12 @@ pub within-all : {ts : List Token} {r r′ : Reading} (d : Reads expression ts r
     → (n : ℕ) → openAt d′ n ≤ L
 within-all {ts} {r} d d′ L w n = by-walk (derived-walks L d (levels-open d L .1 w))
   where
-    by-walk : (s : State) × (walk L start ts ≡ came s) × (finish s ≡ some r) → openAt d′ n ≤ L
+    by-walk : (s : ReaderState) × (walk L start ts ≡ came s) × (finish s ≡ some r) → openAt d′ n ≤ L
     by-walk (s, e, f) = levels-open d′ L .0 (levels-within L ts s e d′) n
 
 -- all continuations agree on the number of open levels
 pub open-one : {ts : List Token} {m n : ℕ} → Open ts m → Open ts n → m ≡ n
 open-one {ts} {m} {n} a b = by-walk (reached (levels (a .reads)) ts (a .more) (a .reads) (le-refl _))
   where
-    by-walk : (s : State) × (walk (levels (a .reads)) start ts ≡ came s) → m ≡ n
+    by-walk : (s : ReaderState) × (walk (levels (a .reads)) start ts ≡ came s) → m ≡ n
     by-walk (s, e) = sym (a .counted) ∙ (open-level _ ts (a .more) s e (a .reads) ∙ (sym (open-level _ ts (b .more) s e (b .reads)) ∙ b .counted))

@@ -18,9 +18,9 @@ use Rattle.token.specs.Lexer as lexer
 use Rattle.token.specs.Next.{allowedFront}
 use Rattle.token.proofs.AllowedBytes.{forbidden-once, forbidden-none, front-most, allowed-front, front-forbidden}
 use Rattle.token.proofs.Lexing.{read-tokens, read-unclosed}
-use Rattle.filter.specs.Answers.{Has, bare, Fine, Reaches, DerivedWithin, Outcome, refused, Answers}
+use Rattle.filter.specs.Answers.{Has, bare, Fine, Reaches, DerivedWithin, TextOutcome, refused, TextAnswers}
 use Rattle.filter.specs.Answers as words
-use Rattle.filter.specs.Reader.{Why, Answer, read}
+use Rattle.filter.specs.Reader.{Why, ReaderAnswer, read}
 use Rattle.filter.specs.Reader as reader
 use Rattle.filter.specs.Answering.{refusalOf, fitted, judged, lexed, answer}
 use Rattle.filter.specs.declared.Refusal.{Refusal}
@@ -34,31 +34,31 @@ use Rattle.filter.proofs.Places.{place-end, refused-answers, read-deriv
 
 module _ (text : List ℕ) (room : ℕ) where
   -- 7 and 8, or compiled
-  fitted-answers : (r : Reading) → Fine text → DerivedWithin text r → Answers text room (fitted room r)
+  fitted-answers : (r : Reading) → Fine text → DerivedWithin text r → TextAnswers text room (fitted room r)
   fitted-answers r f d = by-weight (decLe (weight r) weightLimit) (decLe (recordSize * weight r) room)
     where
-      by-weight : Dec (weight r ≤ weightLimit) → Dec (recordSize * weight r ≤ room) → Answers text room (fitted room r)
+      by-weight : Dec (weight r ≤ weightLimit) → Dec (recordSize * weight r ≤ room) → TextAnswers text room (fitted room r)
       by-weight (no h) k = rw (lt-ltb weightLimit (weight r) (lt-of-not-le h)) (words.too-heavy f d (lt-of-not-le h))
       by-weight (yes h) (no k) =
           rw (le-ltb weightLimit (weight r) h, lt-ltb room (recordSize * weight r) (lt-of-not-le k)) (words.no-room f d h (lt-of-not-le k))
       by-weight (yes h) (yes k) = rw (le-ltb weightLimit (weight r) h, le-ltb room (recordSize * weight r) k) (words.compiles f d h k)
 
   -- 4 to 6, or a reading
-  judged-answers : (ps : List Placed) → Fine text → Lexes 0 text ps → (a : Answer) → read levelLimit (bare ps) ≡ a → Answers text room (judged (length text) ps room a)
+  judged-answers : (ps : List Placed) → Fine text → Lexes 0 text ps → (a : ReaderAnswer) → read levelLimit (bare ps) ≡ a → TextAnswers text room (judged (length text) ps room a)
   judged-answers ps f l (reader.ok r) e = let (d, w) = sound levelLimit (bare ps) e in fitted-answers r f (read-derived ps l d w)
   judged-answers ps f l (reader.refused w us) e = refused-answers ps f l (rw e at (refusals.judged levelLimit (bare ps)))
 
   -- 3, or tokens
-  lexed-answers : Fine text → (l : Lexed) → lexer.read text ≡ l → Answers text room (lexed (length text) room l)
+  lexed-answers : Fine text → (l : Lexed) → lexer.read text ≡ l → TextAnswers text room (lexed (length text) room l)
   lexed-answers f (tokens ps) e = let d : Lexes 0 text ps = read-tokens text ps .0 e in judged-answers ps f d (read levelLimit (bare ps)) refl
   lexed-answers f (unclosed p) e = words.unclosed f (read-unclosed text p .0 e)
 
   -- the computed answer is one that the words give
-  pub answer-given : Answers text room (answer text room)
+  pub answer-given : TextAnswers text room (answer text room)
   unfolding answer
   answer-given = by-size (decLe (length text) textLimit) (decLe (length text) (allowedFront text))
     where
-      by-size : Dec (length text ≤ textLimit) → Dec (length text ≤ allowedFront text) → Answers text room (answer text room)
+      by-size : Dec (length text ≤ textLimit) → Dec (length text ≤ allowedFront text) → TextAnswers text room (answer text room)
       by-size (no h) k = rw (lt-ltb textLimit (length text) (lt-of-not-le h)) (words.too-long (lt-of-not-le h))
       by-size (yes h) (no k) =
           rw (le-ltb textLimit (length text) h, lt-ltb (allowedFront text) (length text) (lt-of-not-le k))
@@ -78,7 +78,7 @@ module _ (text : List ℕ) (room : ℕ) where
       rw (le-ltb textLimit (length text) (f .short), le-ltb (allowedFront text) (length text) (omega arith))
 
   -- tokens, and what the reader makes of them
-  tokens-answer : (ps : List Placed) → Fine text → Lexes 0 text ps → {a : Answer} → read levelLimit (bare ps) ≡ a → answer text room ≡ judged (length text) ps room a
+  tokens-answer : (ps : List Placed) → Fine text → Lexes 0 text ps → {a : ReaderAnswer} → read levelLimit (bare ps) ≡ a → answer text room ≡ judged (length text) ps room a
   tokens-answer ps f d e = fine-answer f ∙ (ap (lexed (length text) room) (read-tokens text ps .1 d) ∙ ap (judged (length text) ps room) e)
 
   -- a text that is derived
@@ -102,7 +102,7 @@ module _ (text : List ℕ) (room : ℕ) where
       by-front (no h) = forbidden-once (front-forbidden text .0 (lt-of-not-le h)) x
 
   -- what the words give is the computed answer
-  pub only-answer : {o : Outcome} → Answers text room o → answer text room ≡ o
+  pub only-answer : {o : TextOutcome} → TextAnswers text room o → answer text room ≡ o
   unfolding answer
   only-answer (words.too-long h) = rw (lt-ltb textLimit (length text) h)
   only-answer (words.forbidden {p} h x) = rw (le-ltb textLimit (length text) h, first-forbidden x, lt-ltb p (length text) (x .within))
@@ -114,5 +114,5 @@ module _ (text : List ℕ) (room : ℕ) where
   only-answer (words.compiles {r} f d h k) = derived-answer f d ∙ rw (le-ltb weightLimit (weight r) h, le-ltb room (recordSize * weight r) k)
 
   -- so the words give one answer
-  pub answers-once : {o p : Outcome} → Answers text room o → Answers text room p → o ≡ p
+  pub answers-once : {o p : TextOutcome} → TextAnswers text room o → TextAnswers text room p → o ≡ p
   answers-once a b = sym (only-answer a) ∙ only-answer b

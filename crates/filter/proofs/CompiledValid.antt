@@ -10,7 +10,7 @@ use Rattle.token.specs.Tokens.{Token}
 use Rattle.operand.proofs.MeaningsPossible.{means-possible}
 use Rattle.filter.specs.Words.{Role, joins, flag, name, vocabulary}
 use Rattle.filter.specs.Grammar.{Part, Reads, flagged, tested, negated, grouped, single, anded, lone, ored}
-use Rattle.filter.specs.Answers.{Answers, compiles, compiled}
+use Rattle.filter.specs.Answers.{TextAnswers, compiles, compiled}
 use Rattle.names.specs.Tables.{Row}
 use Rattle.names.proofs.Finding.{in-each}
 
@@ -39,5 +39,5 @@ reads-possible (lone c) = reads-possible c
 reads-possible (ored w e s c) = (reads-possible e, reads-possible c)
 
 -- the program of a text that compiles is valid
-pub compiled-valid : {text : List ℕ} {room : ℕ} {r : Reading} → Answers text room (compiled r) → Valid (programOf r)
+pub compiled-valid : {text : List ℕ} {room : ℕ} {r : Reading} → TextAnswers text room (compiled r) → Valid (programOf r)
 compiled-valid {r = r} (compiles f d w l) = reading-valid r (reads-possible (d .derived .reads)) w

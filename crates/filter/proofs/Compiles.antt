@@ -22,15 +22,15 @@ use Rattle.token.specs.Texts.{textLimit}
 use Rattle.filter.specs.Levels.{levelLimit}
 use Rattle.token.specs.Lexer as lexer
 use Rattle.token.specs.Next.{left, Closed, nextAt, allowedFront, unclosedAt}
-use Rattle.token.specs.declared.Kind.the-variants.{End}
+use Rattle.token.specs.declared.Sort.the-variants.{End}
 use Rattle.token.specs.declared.Lexeme.{Lexeme}
 use Rattle.token.proofs.Again.{left-again}
-use Rattle.token.proofs.Kind as kinds
+use Rattle.token.proofs.Sort as sorts
 use Rattle.token.proofs.Lexing.{read-unclosed}
 use Rattle.token.proofs.Nexts.{closed-lexed, unclosed-closed, unclosed-found, unclosed-most}
 use Rattle.filter.specs.Grammar.{expression}
 use Rattle.filter.specs.Answers.{bare, compiled, refused}
-use Rattle.filter.specs.Reader.{whole, depth, State, have, bad, Answer, ok, leave, end, conclude, finish, read}
+use Rattle.filter.specs.Reader.{whole, depth, ReaderState, have, bad, ReaderAnswer, ok, leave, end, conclude, finish, read}
 use Rattle.filter.specs.Reader as reader
 use Rattle.filter.specs.Answering.{fitted, judged, lexed, answer}
 use Rattle.filter.specs.Functions.{compilingOf, compiling, ourCompiler}
@@ -103,7 +103,7 @@ module _ {text : List ℕ} {t : Lexeme} (short : length text ≤ textLimit) (clo
       behind = read-ready whole-ready got
 
       -- a token is left behind it
-      pub whole-rest : (ks : List ℕ) → T (not (hasKey ks 0)) → OneOf ks (tagOf kinds.the-type (u .kind)) → Whole text old (Refused aToken (u .start)) new
+      pub whole-rest : (ks : List ℕ) → T (not (hasKey ks 0)) → OneOf ks (tagOf sorts.the-type (u .sort)) → Whole text old (Refused aToken (u .start)) new
       unfolding depth leave
       whole-rest ks i j = whole-says-stopped refl record {
         why = bad;
@@ -113,13 +113,13 @@ module _ {text : List ℕ} {t : Lexeme} (short : length text ≤ textLimit) (clo
         there = rw (all-left ∙ got .passed .joined) (place-left (length text) (got .passed .front) (from text u) ∙ start-here behind);
       }
         where
-          by-run : (z : State) × Stood expression (got .reading) whole z × (run (begins expression whole) (from text t) ≡ run z (from text u))
+          by-run : (z : ReaderState) × Stood expression (got .reading) whole z × (run (begins expression whole) (from text t) ≡ run z (from text u))
               → run (begins expression whole) (from text t) ≡ reader.refused bad (bare (from text u))
           by-run (z, w, y) =
               y ∙ unfinished behind (s .over u m e) whole (got .reading) z w (λ b. refl) (λ b. absurd (miss ks 0 i (rw b at j)))
 
       -- none is
-      pub whole-read : u .kind ≡ End → Whole text old (Upto u m) new
+      pub whole-read : u .sort ≡ End → Whole text old (Upto u m) new
       unfolding depth Stood finish end conclude
       whole-read k = whole-says-read record {
         reading = got .reading;
@@ -129,7 +129,7 @@ module _ {text : List ℕ} {t : Lexeme} (short : length text ≤ textLimit) (clo
         wrote = got .wrote;
       }
         where
-          by-run : (z : State) × Stood expression (got .reading) whole z × (run (begins expression whole) (from text t) ≡ run z (from text u))
+          by-run : (z : ReaderState) × Stood expression (got .reading) whole z × (run (begins expression whole) (from text t) ≡ run z (from text u))
               → run (begins expression whole) (from text t) ≡ ok (got .reading)
           by-run (z, (c, g, o, f), y) = y ∙ rw (f, end-none behind k .0) (run-none (have c g) ∙ ap (λ o. conclude (end o)) o)
 
@@ -178,7 +178,7 @@ module _ (text old : List ℕ) {byte : ℕ} (short : length text ≤ textLimit) 
       given-closed = unclosed-closed text (le-antisymm (unclosed-most text) (rw place at quotes))
 
       -- what is left of the answer then
-      answer-judged : {a : Answer} → read levelLimit (bare (left text 0)) ≡ a → answer text (length old) ≡ judged (length text) (left text 0) (length old) a
+      answer-judged : {a : ReaderAnswer} → read levelLimit (bare (left text 0)) ≡ a → answer text (length old) ≡ judged (length text) (left text 0) (length old) a
       answer-judged e =
           answer-lexed ∙ (ap (lexed (length text) (length old)) (closed-lexed given-closed) ∙ ap (judged (length text) (left text 0) (length old)) e)
 

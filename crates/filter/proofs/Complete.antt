@@ -9,7 +9,7 @@ use Rattle.token.specs.Tokens.{Word, Token, open′, close, bang, word}
 use Rattle.filter.specs.Words.{joins, flag, name, Says}
 use Rattle.filter.specs.Grammar.{Operand, a-word, a-quoted, Part, expression, conjunction, factor, Reads, flagged, tested, negated, grouped, single, anded, lone, ored}
 use Rattle.filter.specs.Levels.{openAt}
-use Rattle.filter.specs.Reader.{Hole, whole, grouping, first, oring, head, anding, negating, depth, State, want, operand, have, level, takes, came, ok, settle, outer, again, leave, end, begin, fill, join, conclude, answered, finish, start, move, walk, read}
+use Rattle.filter.specs.Reader.{Hole, whole, grouping, first, oring, head, anding, negating, depth, ReaderState, want, operand, have, level, takes, came, ok, settle, outer, again, leave, end, begin, fill, join, conclude, answered, finish, start, move, walk, read}
 use Rattle.filter.proofs.Counts.{levels, open-within, levels-open}
 use Rattle.filter.proofs.Walks.{step-opens, walk-go, walk-takes, walk-join}
 use Rattle.operand.specs.declared.Name.{Name}
@@ -24,7 +24,7 @@ raised {p = conjunction} d = lone d
 raised {p = factor} d = lone (single d)
 
 -- where the reading of a part begins
-abbrev pub enter : (p : Part) → Hole p → State
+abbrev pub enter : (p : Part) → Hole p → ReaderState
 enter factor h = want h
 enter conjunction h = want (head h)
 enter expression h = want (head (first h))
@@ -106,11 +106,11 @@ module _ (L : ℕ) where
 
   -- what is derived within the limit brings the reader to a state that ends with that reading
   pub derived-walks : {ts : List Token} {r : Reading} (d : Reads expression ts r) → levels d ≤ L
-      → (s : State) × (walk L start ts ≡ came s) × (finish s ≡ some r)
+      → (s : ReaderState) × (walk L start ts ≡ came s) × (finish s ≡ some r)
   unfolding depth finish end
   derived-walks {ts} {r} d l = by-walk (reads-walk d whole (omega arith))
     where
-      by-walk : Walked L expression whole ts r → (s : State) × (walk L start ts ≡ came s) × (finish s ≡ some r)
+      by-walk : Walked L expression whole ts r → (s : ReaderState) × (walk L start ts ≡ came s) × (finish s ≡ some r)
       by-walk (c, k, q, f) = (have c k, f, ap end q)
 
   -- what is derived within the limit is read so
@@ -118,7 +118,7 @@ module _ (L : ℕ) where
   unfolding read answered conclude
   complete {ts} {r} d w = by-walk (derived-walks d (levels-open d L .1 w))
     where
-      by-walk : (s : State) × (walk L start ts ≡ came s) × (finish s ≡ some r) → answered (walk L start ts) ≡ ok r
+      by-walk : (s : ReaderState) × (walk L start ts ≡ came s) × (finish s ≡ some r) → answered (walk L start ts) ≡ ok r
       by-walk (s, e, f) = ap answered e ∙ ap conclude f
 
 -- an expression has one reading

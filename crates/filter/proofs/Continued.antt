@@ -15,7 +15,7 @@ use Rattle.operand.specs.declared.Name.the-variants.{MessageType as typeName, A
 use Rattle.operand.proofs.Samples.{sampleText}
 use Rattle.filter.specs.Grammar.{Part, expression, Reads}
 use Rattle.filter.specs.Answers.{Alive, bare}
-use Rattle.filter.specs.Reader.{Hole, whole, grouping, first, oring, head, anding, negating, State, want, operand, have, came, start, walk}
+use Rattle.filter.specs.Reader.{Hole, whole, grouping, first, oring, head, anding, negating, ReaderState, want, operand, have, came, start, walk}
 use Rattle.filter.proofs.Roles.{loopsWord, loops-said}
 use Rattle.filter.proofs.Sayings.{wordly, wordly-sound, said-written}
 use Rattle.filter.proofs.Spelling.{Proper, spell, positioned, space-stops, spell-lexes, bare-positioned, seen, spell-allowed}
@@ -53,7 +53,7 @@ sample-proper peerName = (omega arith, wordly-sound (sampleText peerName) refl)
 sample-proper timeName = (omega arith, wordly-sound (sampleText timeName) refl)
 sample-proper (networkName r) = (omega arith, wordly-sound (sampleText (networkName r)) refl)
 
-closing-proper : (s : State) → Every Proper (closing s)
+closing-proper : (s : ReaderState) → Every Proper (closing s)
 unfolding closing
 closing-proper (want h) = let w = said-written loops-said in every-more {a = word loopsWord} (w .some, w .bytes) (closers-proper h)
 closing-proper (operand k h) = every-more (sample-proper k) (closers-proper h)
@@ -63,7 +63,7 @@ closing-proper (have r h) = closers-proper h
 pub alive-written : {text : List ℕ} {ps : List Placed} → Lexes 0 text ps → Alive (bare ps) → Continued text ps
 alive-written {text} {ps} l a = by-walk (alive-reached 0 (bare ps) a)
   where
-    by-walk : (M : ℕ) × (s : State) × (0 ≤ M) × (walk M start (bare ps) ≡ came s) → Continued text ps
+    by-walk : (M : ℕ) × (s : ReaderState) × (0 ≤ M) × (walk M start (bare ps) ≡ came s) → Continued text ps
     by-walk (M, s, z, e) =
         let d = closed-at (bare ps) s (walk-at M (bare ps) s e) in
         record {

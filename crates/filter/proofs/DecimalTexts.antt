@@ -16,7 +16,8 @@ use Rattle.octets.proofs.Decimal.{digits-length}
 use Rattle.octets.proofs.Decimal as law
 use Rattle.octets.proofs.Every.{every-append}
 use Rattle.network.specs.Text.{addressText}
-use Rattle.operand.specs.Decimals.{Below}
+use Rattle.operand.specs.Decimals.{byteLimit, Below}
+use Rattle.operand.specs.AsNumbers.{asLimit, AsNumber, plain}
 use Rattle.operand.specs.Addresses.{Address}
 use Rattle.filter.proofs.Spelling.{Plain}
 
@@ -75,6 +76,10 @@ shorter n h x = record { plain = x .plain; short = omega (arith, x .short) }
 pub decimal-is : (limit n : ℕ) → n < limit → n < 2 ^ 32 → Below limit (octets.decimal n) n
 decimal-is limit n h w = record { decimal = law.decimal-is n w; below = h }
 
+-- and an AS number
+pub as-number-is : (n : ℕ) → n < 2 ^ 32 → AsNumber (octets.decimal n) n
+as-number-is n w = plain (decimal-is asLimit n w w)
+
 -- digits can be quoted
 decimal-plain : {bs : List ℕ} {n : ℕ} → Decimal bs n → Every Plain bs
 decimal-plain (digit d h) = every-more (digit-plain d h) every-none
@@ -100,10 +105,10 @@ address-is a h =
       cText = octets.decimal (a / 256 % 256);
       dText = octets.decimal (a % 256);
       joined = refl;
-      a-is = decimal-is 256 (a / 16777216) (omega arith) (omega arith);
-      b-is = decimal-is 256 (a / 65536 % 256) (omega arith) (omega arith);
-      c-is = decimal-is 256 (a / 256 % 256) (omega arith) (omega arith);
-      d-is = decimal-is 256 (a % 256) (omega arith) (omega arith);
+      a-is = decimal-is byteLimit (a / 16777216) (omega arith) (omega arith);
+      b-is = decimal-is byteLimit (a / 65536 % 256) (omega arith) (omega arith);
+      c-is = decimal-is byteLimit (a / 256 % 256) (omega arith) (omega arith);
+      d-is = decimal-is byteLimit (a % 256) (omega arith) (omega arith);
       value = omega arith;
     }
 

@@ -8,7 +8,7 @@ use Rattle.token.specs.Tokens.{Word, Token, close, bang, word}
 use Rattle.filter.specs.Grammar.{Operand, a-word, Part, expression, conjunction, factor, Reads}
 use Rattle.filter.specs.Levels.{Open}
 use Rattle.filter.specs.Answers.{Alive, Leads, Stands}
-use Rattle.filter.specs.Reader.{Hole, whole, grouping, first, oring, head, anding, negating, State, want, operand, have, level, came, settle, outer, end, finish, start, walk}
+use Rattle.filter.specs.Reader.{Hole, whole, grouping, first, oring, head, anding, negating, ReaderState, want, operand, have, level, came, settle, outer, end, finish, start, walk}
 use Rattle.filter.proofs.Walks.{walk-takes, walk-join}
 use Rattle.filter.proofs.Complete.{flag-moves, operand-moves, close-moves}
 use Rattle.filter.proofs.Counts.{levels-open}
@@ -30,8 +30,8 @@ closers (anding a h) = closers h
 closers (negating h) = closers h
 
 -- these tokens bring a state to the end of a text
-record Ends (L : ℕ) (s : State) (ts : List Token) : Type 0 where
-  pub last : State
+record Ends (L : ℕ) (s : ReaderState) (ts : List Token) : Type 0 where
+  pub last : ReaderState
   pub reading : Reading
   pub walked : walk L s ts ≡ came last
   pub finished : finish last ≡ some reading
@@ -43,14 +43,14 @@ Closes L conjunction h = (r : Reading) → Ends L (have r h) (closers h)
 Closes L expression h = (r c : Reading) (k : Hole conjunction) → outer c k ≡ (r, h) → Ends L (have c k) (closers h)
 
 -- the tokens that bring a state to the end of a text
-unfoldable pub closing : State → List Token
+unfoldable pub closing : ReaderState → List Token
 closing (want h) = word (loopsWord) ∷ closers h
 closing (operand k h) = word (sampleText k) ∷ closers h
 closing (have r h) = closers h
 
 module _ (L : ℕ) where
   -- a token first
-  then-ends : (s s′ : State) (t : Token) (ts : List Token) → walk L s (t ∷ ts) ≡ walk L s′ ts → Ends L s′ ts → Ends L s (t ∷ ts)
+  then-ends : (s s′ : ReaderState) (t : Token) (ts : List Token) → walk L s (t ∷ ts) ≡ walk L s′ ts → Ends L s′ ts → Ends L s (t ∷ ts)
   then-ends s s′ t ts e f = record { last = f .last; reading = f .reading; walked = e ∙ f .walked; finished = f .finished }
 
   -- every hole closes
@@ -66,7 +66,7 @@ module _ (L : ℕ) where
   closes (negating h) = λ r. closes h (neg r)
 
   -- every state ends
-  ends : (s : State) → Ends L s (closing s)
+  ends : (s : ReaderState) → Ends L s (closing s)
   unfolding closing
   ends (want h) =
       then-ends (want h) _ (word (loopsWord)) (closers h) (walk-takes L (want h) _ (word (loopsWord)) (closers h) (flag-moves h (loops-said)))
@@ -78,19 +78,19 @@ module _ (L : ℕ) where
   ends (have r h) = closes h r
 
 -- tokens that lead to a state are derived with its closing
-ends-at : (ts : List Token) (s : State) (f : Ends 0 s (closing s)) → At ts s → Reads expression (ts ++ closing s) (f .reading)
+ends-at : (ts : List Token) (s : ReaderState) (f : Ends 0 s (closing s)) → At ts s → Reads expression (ts ++ closing s) (f .reading)
 ends-at ts s f a = rw (f .finished) at (finish-at (ts ++ closing s) (f .last) (rw (f .walked) at (walk-moves 0 ts s (closing s) a)))
 
 -- so they have a reading with it
-pub closed-at : (ts : List Token) (s : State) → At ts s → (r : Reading) × Reads expression (ts ++ closing s) r
+pub closed-at : (ts : List Token) (s : ReaderState) → At ts s → (r : Reading) × Reads expression (ts ++ closing s) r
 closed-at ts s a = (ends 0 s .reading, ends-at ts s (ends 0 s) a)
 
 -- and are allowed
-alive-at : (ts : List Token) (s : State) → At ts s → Alive ts
+alive-at : (ts : List Token) (s : ReaderState) → At ts s → Alive ts
 alive-at ts s a = record { more = closing s; reading = closed-at ts s a .0; reads = closed-at ts s a .1 }
 
 -- tokens that are walked within a limit lead on within it
-pub leads : (L : ℕ) (ts : List Token) (s : State) → walk L start ts ≡ came s → Leads L ts
+pub leads : (L : ℕ) (ts : List Token) (s : ReaderState) → walk L start ts ≡ came s → Leads L ts
 leads L ts s e =
     record {
       more = closing s;
@@ -102,7 +102,7 @@ leads L ts s e =
     }
 
 -- and have as many levels open as the state
-pub opened : (L : ℕ) (ts : List Token) (s : State) → walk L start ts ≡ came s → Open ts (level s)
+pub opened : (L : ℕ) (ts : List Token) (s : ReaderState) → walk L start ts ≡ came s → Open ts (level s)
 opened L ts s e =
     record {
       more = closing s;

@@ -14,18 +14,19 @@ use denote.Enum.Declared.{tagOf}
 use Rattle.octets.specs.Writes.{Written}
 use Rattle.program.specs.declared.Fields.{Fields}
 use Rattle.program.specs.Readings.{and, or, Reading, neg, weight}
+use Rattle.program.specs.Kinds.{flipKind}
 use Rattle.program.specs.Layout.{recordSize, fields, laid}
 use Rattle.filter.specs.Levels.{levelLimit}
 use Rattle.token.specs.Tokens.{Token, open′, close, bang, word, quoted}
 use Rattle.token.specs.Next.{nextAt, bytesIn, tokenIn}
-use Rattle.token.specs.declared.Kind.the-variants.{End, Close}
+use Rattle.token.specs.declared.Sort.the-variants.{End, Close}
 use Rattle.token.specs.declared.Lexeme.{Lexeme}
-use Rattle.token.proofs.Kind as kinds
-use Rattle.token.proofs.Nexts.{kind-token}
+use Rattle.token.proofs.Sort as sorts
+use Rattle.token.proofs.Nexts.{sort-token}
 use Rattle.filter.specs.Words.{Role, joins, flag, name, roleOf}
 use Rattle.filter.specs.Grammar.{Part, expression, conjunction, factor}
 use Rattle.filter.specs.Answers.{bare, Opener, a-group, a-bang}
-use Rattle.filter.specs.Reader.{Hole, grouping, negating, depth, State, want, have, level, bad, deep, opens, stuck, refused, settle, outer, leave, end, join, conclude, finish, move}
+use Rattle.filter.specs.Reader.{Hole, grouping, negating, depth, ReaderState, want, have, level, bad, deep, opens, stuck, refused, settle, outer, leave, end, join, conclude, finish, move}
 use Rattle.filter.specs.Parsing.{tokenRole, firstRole, from, run, begins, Stood, Over, Ready, Read, Stopped, PartSays}
 use Rattle.filter.specs.declared.Refusal.{Refusal}
 use Rattle.filter.specs.declared.Refusal.the-variants.{Token as aToken, Level}
@@ -79,23 +80,23 @@ module _ {text : List ℕ} {t : Lexeme} {n : ℕ} (ready : Ready text t n) {a : 
       (λ h d. (inside x h, omega (arith, depth-inside x h), inside-wanted l h d)))
 
 -- `!` around a factor that was read
-negation-stood : (r : Reading) (h : Hole factor) (s : State) → Stood factor r (negating h) s → Stood factor (neg r) h s
+negation-stood : (r : Reading) (h : Hole factor) (s : ReaderState) → Stood factor r (negating h) s → Stood factor (neg r) h s
 unfolding Stood settle
 negation-stood r h s e = e
 
 -- `!` and a factor, with its flip
 module _ {text old mid new : List ℕ} {t l u : Lexeme} {lv n m p : ℕ} {r : Parsed} {f : Fields} (ready : Ready text t n) (token : tokenIn text t ≡ some bang) where
-  pub negation : lv < levelLimit → l ≡ nextAt text (t .end) → PartSays factor text (lv + 1) l n old r mid → r ≡ Upto u m → f ≡ fields 10 0 0 0 0
+  pub negation : lv < levelLimit → l ≡ nextAt text (t .end) → PartSays factor text (lv + 1) l n old r mid → r ≡ Upto u m → f ≡ fields flipKind 0 0 0 0
       → Written mid (recordSize * m) (laid f) new p → PartSays factor text lv t n old (Upto u (m + 1)) new
   unfolding Over weight
   negation d e s x i w = says-read (lift ((rw e at s) .upto u m x) (w .laid ∙ ap (λ f. sets mid (recordSize * m) (laid f)) i)) tt
     where
       by-run : (y : Reading) (h : Hole factor) → depth h ≡ lv
-          → (s : State) × Stood factor y (negating h) s × (run (begins factor (negating h)) (from text (nextAt text (t .end))) ≡ run s (from text u))
-          → (s : State) × Stood factor (neg y) h s × (run (begins factor h) (from text t) ≡ run s (from text u))
+          → (s : ReaderState) × Stood factor y (negating h) s × (run (begins factor (negating h)) (from text (nextAt text (t .end))) ≡ run s (from text u))
+          → (s : ReaderState) × Stood factor (neg y) h s × (run (begins factor h) (from text t) ≡ run s (from text u))
       by-run y h k (s, i, e) = (s, negation-stood y h s i, inside-wanted ready a-bang token d h k ∙ e)
 
-      lift : Read factor text (lv + 1) (nextAt text (t .end)) n old u m mid → new ≡ sets mid (recordSize * m) (laid (fields 10 0 0 0 0))
+      lift : Read factor text (lv + 1) (nextAt text (t .end)) n old u m mid → new ≡ sets mid (recordSize * m) (laid (fields flipKind 0 0 0 0))
           → Read factor text lv t n old u (m + 1) new
       lift r w = record {
         reading = neg (r .reading);
@@ -129,12 +130,12 @@ stuck-behind c k (word w) x y f = by-role (roleOf w) x y
 stuck-behind c k (quoted w) x y f = refl
 
 -- what was read as an expression, and neither goes on nor ends there
-pub unfinished : {text : List ℕ} {u : Lexeme} {m : ℕ} → Ready text u m → Over expression (from text u) → (h : Hole expression) (r : Reading) (s : State) → Stood expression r h s
-    → (tokenIn text u ≡ some close → leave (r, h) ≡ stuck) → (u .kind ≡ End → end (r, h) ≡ none) → run s (from text u) ≡ refused bad (bare (from text u))
+pub unfinished : {text : List ℕ} {u : Lexeme} {m : ℕ} → Ready text u m → Over expression (from text u) → (h : Hole expression) (r : Reading) (s : ReaderState) → Stood expression r h s
+    → (tokenIn text u ≡ some close → leave (r, h) ≡ stuck) → (u .sort ≡ End → end (r, h) ≡ none) → run s (from text u) ≡ refused bad (bare (from text u))
 unfolding Stood Over firstRole bare finish conclude
 unfinished {text} {u} ready (x, y) h r s (c, k, e, f) p q = rw f (go (end-or-token ready))
   where
-    go : (u .kind ≡ End) ⊎ ((a : Token) × (tokenIn text u ≡ some a)) → run (have c k) (from text u) ≡ refused bad (bare (from text u))
+    go : (u .sort ≡ End) ⊎ ((a : Token) × (tokenIn text u ≡ some a)) → run (have c k) (from text u) ≡ refused bad (bare (from text u))
     go (inl i) = rw (end-none ready i .0) (run-none (have c k) ∙ ap (λ o. conclude (end o)) e ∙ ap conclude (q i))
     go (inr (a, i)) =
         let role : firstRole (from text u) ≡ tokenRole a = ap firstRole (from-next ready i) in
@@ -152,7 +153,7 @@ module _ {text old new : List ℕ} {t l u : Lexeme} {lv n m : ℕ} {r : Parsed} 
   inner-ready = read-ready (next-ready ready token refl) inner
 
   -- no `)` follows
-  pub group-stops : (ks : List ℕ) → T (not (hasKey ks 2)) → OneOf ks (tagOf kinds.the-type (u .kind)) → PartSays factor text lv t n old (Refused aToken (u .start)) new
+  pub group-stops : (ks : List ℕ) → T (not (hasKey ks 2)) → OneOf ks (tagOf sorts.the-type (u .sort)) → PartSays factor text lv t n old (Refused aToken (u .start)) new
   unfolding leave end
   group-stops ks i j = says-stopped refl record {
     why = bad;
@@ -165,23 +166,23 @@ module _ {text old new : List ℕ} {t l u : Lexeme} {lv n m : ℕ} {r : Parsed} 
   }
     where
       by-run : (h : Hole factor) → depth h ≡ lv
-          → (s : State) × Stood expression (inner .reading) (grouping h) s
+          → (s : ReaderState) × Stood expression (inner .reading) (grouping h) s
           × (run (begins expression (grouping h)) (from text (nextAt text (t .end))) ≡ run s (from text u))
           → run (begins factor h) (from text t) ≡ refused bad (bare (from text u))
       by-run h k (z, w, y) =
           inside-wanted ready a-group token d h k
-          ∙ (y ∙ unfinished inner-ready (s .over u m x) (grouping h) (inner .reading) z w (λ b. absurd (miss ks 2 i (rw (close-tag (u .kind) (bytesIn text u) b) at j))) (λ b. refl))
+          ∙ (y ∙ unfinished inner-ready (s .over u m x) (grouping h) (inner .reading) z w (λ b. absurd (miss ks 2 i (rw (close-tag (u .sort) (bytesIn text u) b) at j))) (λ b. refl))
 
   -- `)` follows
-  pub group : {v : Lexeme} → u .kind ≡ Close → v ≡ nextAt text (u .end) → PartSays factor text lv t n old (Upto v m) new
+  pub group : {v : Lexeme} → u .sort ≡ Close → v ≡ nextAt text (u .end) → PartSays factor text lv t n old (Upto v m) new
   unfolding Over Stood
   group {v} c f = rw f (says-read closes tt)
     where
       shut : tokenIn text u ≡ some close
-      shut = kind-token text u c
+      shut = sort-token text u c
 
       by-run : (h : Hole factor) → depth h ≡ lv
-          → (s : State) × Stood expression (inner .reading) (grouping h) s
+          → (s : ReaderState) × Stood expression (inner .reading) (grouping h) s
           × (run (begins expression (grouping h)) (from text (nextAt text (t .end))) ≡ run s (from text u))
           → run (begins factor h) (from text t) ≡ run (settle (inner .reading) h) (from text (nextAt text (u .end)))
       by-run h k (z, (c, g, o, q), y) =

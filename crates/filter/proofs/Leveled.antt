@@ -12,7 +12,7 @@ use Rattle.program.specs.Readings.{Test, and, or, Reading, test, neg}
 use Rattle.token.specs.Tokens.{Token, open′, close, bang, word, quoted}
 use Rattle.filter.specs.Words.{Role, joins, flag, name, roleOf}
 use Rattle.filter.specs.Grammar.{expression, conjunction, factor}
-use Rattle.filter.specs.Reader.{Hole, whole, grouping, first, oring, head, anding, negating, depth, State, want, operand, have, level, Move, takes, opens, stuck, breaks, came, settle, outer, again, leave, begin, fill, join, admit, follow, move, step, walk}
+use Rattle.filter.specs.Reader.{Hole, whole, grouping, first, oring, head, anding, negating, depth, ReaderState, want, operand, have, level, Move, takes, opens, stuck, breaks, came, settle, outer, again, leave, begin, fill, join, admit, follow, move, step, walk}
 use Rattle.filter.proofs.Walks.{no-came}
 use Rattle.operand.specs.Tests.{meaning}
 use Rattle.filter.specs.Answers.{Opener, a-group, a-bang}
@@ -64,7 +64,7 @@ join-level t r h (some (name k)) = tt
 join-level t r h none = tt
 
 -- only a token that opens a level adds one
-pub move-level : (s : State) (t : Token) → Leveled t (level s) (move s t)
+pub move-level : (s : ReaderState) (t : Token) → Leveled t (level s) (move s t)
 unfolding move level depth
 move-level (want h) open′ = (a-group, refl)
 move-level (want h) bang = (a-bang, refl)
@@ -83,13 +83,13 @@ move-level (have r h) (word w) = join-level (word w) r h (roleOf w)
 move-level (have r h) (quoted v) = tt
 
 -- a walk keeps within its limit
-pub walk-within : (L : ℕ) (s : State) (ts : List Token) (s′ : State) → level s ≤ L → walk L s ts ≡ came s′ → level s′ ≤ L
+pub walk-within : (L : ℕ) (s : ReaderState) (ts : List Token) (s′ : ReaderState) → level s ≤ L → walk L s ts ≡ came s′ → level s′ ≤ L
 unfolding walk follow step admit
 walk-within L s [] s′ l e = let q : s ≡ s′ = cc in rw q at l
 walk-within L s (t ∷ ts) s′ l e = by-move (move s t) (move-level s t) (ltb (level s) L) (ltb-true _ _) e (λ x. walk-within L x ts s′)
   where
     by-move : (m : Move) → Leveled t (level s) m → (b : Bool) → (b ≡ true → level s < L) → follow (admit b m) (λ x. walk L x ts) (t ∷ ts) ≡ came s′
-        → ((x : State) → level x ≤ L → walk L x ts ≡ came s′ → level s′ ≤ L) → level s′ ≤ L
+        → ((x : ReaderState) → level x ≤ L → walk L x ts ≡ came s′ → level s′ ≤ L) → level s′ ≤ L
     by-move (takes x) i b g e f = f x (omega arith) e
     by-move (opens x) (o, i) true g e f = let j : level s < L = g refl in f x (omega arith) e
     by-move (opens x) i false g e f = no-came _ e refl

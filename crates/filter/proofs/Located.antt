@@ -16,7 +16,7 @@ use Rattle.token.specs.Tokens.{Word, Token, open′, close, bang, word}
 use Rattle.filter.specs.Words.{joins, flag, name, Says}
 use Rattle.filter.specs.Grammar.{Operand, Part, expression, conjunction, factor, Reads, flagged, tested, negated, grouped, single, anded, lone, ored}
 use Rattle.filter.specs.Levels.{openAt}
-use Rattle.filter.specs.Reader.{Hole, grouping, first, oring, head, anding, negating, depth, State, want, operand, have, level, takes, opens, go, came, settle, move, step, walk}
+use Rattle.filter.specs.Reader.{Hole, grouping, first, oring, head, anding, negating, depth, ReaderState, want, operand, have, level, takes, opens, go, came, settle, move, step, walk}
 use Rattle.filter.proofs.Walks.{step-opens, walk-go, walk-takes, walk-join}
 use Rattle.filter.proofs.Complete.{enter, Walked, reads-walk, name-moves, and-moves, or-moves}
 use Rattle.filter.proofs.Counts.{levels, open-past}
@@ -24,8 +24,8 @@ use Rattle.operand.specs.declared.Name.{Name}
 use Rattle.operand.specs.Tests.{StandsFor}
 
 -- a walk that comes to a state with so many levels
-pub record Located (L : ℕ) (s : State) (ts : List Token) (count : ℕ) : Type 0 where
-  pub state : State
+pub record Located (L : ℕ) (s : ReaderState) (ts : List Token) (count : ℕ) : Type 0 where
+  pub state : ReaderState
   pub walked : walk L s ts ≡ came state
   pub counted : level state ≡ count
 
@@ -37,16 +37,16 @@ Upto expression n size = n ≤ size
 
 module _ (L : ℕ) where
   -- at the beginning
-  stays : (s : State) (count : ℕ) → level s ≡ count → Located L s [] count
+  stays : (s : ReaderState) (count : ℕ) → level s ≡ count → Located L s [] count
   unfolding walk
   stays s count e = record { state = s; walked = refl; counted = e }
 
   -- past a token that is let in
-  onto : (s s′ : State) (t : Token) {ts : List Token} {count : ℕ} → step L s t ≡ go s′ → Located L s′ ts count → Located L s (t ∷ ts) count
+  onto : (s s′ : ReaderState) (t : Token) {ts : List Token} {count : ℕ} → step L s t ≡ go s′ → Located L s′ ts count → Located L s (t ∷ ts) count
   onto s s′ t {ts} e f = record { state = f .state; walked = walk-go L s s′ t ts e ∙ f .walked; counted = f .counted }
 
   -- past the left side of a joint
-  beyond : (ts us : List Token) (w : Word) (s x y : State) (n : ℕ) {count : ℕ} → length ts < n → walk L s ts ≡ came x → move x (word w) ≡ takes y
+  beyond : (ts us : List Token) (w : Word) (s x y : ReaderState) (n : ℕ) {count : ℕ} → length ts < n → walk L s ts ≡ came x → move x (word w) ≡ takes y
       → Located L y (take (n - (length ts + 1)) us) count → Located L s (take n (ts ++ (word w ∷ us))) count
   beyond ts us w s x y n l e m f =
       let i : n ≡ length ts + suc (n - (length ts + 1)) = omega arith in
@@ -73,7 +73,7 @@ module _ (L : ℕ) where
           }
 
   -- a joint, by its sides
-  at-joint : (ts us : List Token) (w : Word) (s x y : State) (n base : ℕ) (a b : ℕ → ℕ) → walk L s ts ≡ came x → move x (word w) ≡ takes y
+  at-joint : (ts us : List Token) (w : Word) (s x y : ReaderState) (n base : ℕ) (a b : ℕ → ℕ) → walk L s ts ≡ came x → move x (word w) ≡ takes y
       → (n ≤ length ts → Located L s (take n ts) (base + a n))
       → (length ts < n → Located L y (take (n - (length ts + 1)) us) (base + b (n - (length ts + 1))))
       → Located L s (take n (ts ++ (word w ∷ us))) (base + pick (leb n (length ts)) (a n) (b (n - (length ts + 1))))
@@ -101,7 +101,7 @@ module _ (L : ℕ) where
   in-tested q a m h (suc (suc n)) i = absurd (omega arith)
 
   -- a token that opens a level
-  one-more : (s s′ : State) (t : Token) (ts : List Token) (base count : ℕ) → move s t ≡ opens s′ → level s < L → Located L s′ ts (suc base + count)
+  one-more : (s s′ : ReaderState) (t : Token) (ts : List Token) (base count : ℕ) → move s t ≡ opens s′ → level s < L → Located L s′ ts (suc base + count)
       → Located L s (t ∷ ts) (base + suc count)
   one-more s s′ t ts base count m l f = rw (add-suc base count, ← suc-add base count) (onto s s′ t (step-opens L s s′ t m l) f)
 

@@ -8,64 +8,60 @@ use lib.ListN.{length, replicate, length-replicate}
 use Rattle.octets.specs.Choice.{pick}
 use Rattle.octets.specs.Decimal.{decimal}
 use Rattle.octets.specs.Lists.{Every, every-none, every-more}
-use Rattle.network.specs.declared.Network.{Network}
+use Rattle.network.specs.Networks.{addressBits, Network}
 use Rattle.network.specs.declared.Relation.{Relation}
 use Rattle.network.specs.Text.{addressText}
 use Rattle.aspath.specs.declared.Item.{Item}
 use Rattle.aspath.specs.declared.Item.the-variants.{Number, Other, Any}
 use Rattle.aspath.specs.Patterns.{Pattern}
 use Rattle.program.specs.Readings.{Peer, byAs, byAddress, byBoth, Side, eitherSide, announced, withdrawn, Comparison, equal, below, atMost, above, atLeast, Test, typeIs, hasAttribute, pathMatches, peerIs, networkIs, timeIs}
-use Rattle.program.specs.Records.{Code, ItemPossible, PeerPossible, NetworkPossible, PathPossible, TimePossible, weightLimit}
+use Rattle.program.specs.Records.{Code, ItemPossible, PeerPossible, NetworkPossible, PathPossible, TimePossible}
 use Rattle.token.specs.Texts.{space}
 use Rattle.operand.specs.declared.Name.{Name}
-use Rattle.operand.specs.declared.Name.the-variants.{Network as networkName}
-use Rattle.operand.specs.Decimals.{Digits, end}
+use Rattle.operand.specs.declared.Name.the-variants.{MessageType as typeName, Attribute as attributeName, Path as pathName, Peer as peerName, Time as timeName, Network as networkName}
+use Rattle.operand.specs.Decimals.{byteLimit, Digits, end}
 use Rattle.operand.specs.Decimals as decimals
 use Rattle.names.specs.Tables.{Row}
 use Rattle.names.specs.Names.{typeNames, attributeNames}
 use Rattle.operand.specs.Codes.{CodeOperand, by-code}
 use Rattle.operand.specs.Addresses.{NetworkText, plain, plus, minus}
 use Rattle.operand.specs.Peers.{by-as, by-address, by-both}
-use Rattle.operand.specs.Patterns.{ItemText, a-number, not-it, any, ItemsText, empty, last}
-use Rattle.operand.specs.Patterns as patterns
-use Rattle.operand.specs.Times.{ComparisonText, unsigned, less, at-most, greater, at-least, FractionText, fraction}
+use Rattle.operand.specs.Patterns.{ItemText, a-number, not-it, any}
+use Rattle.operand.specs.Parted.{PartedText, empty, last}
+use Rattle.operand.specs.Parted as parted
+use Rattle.operand.specs.Times.{secondsLimit, ComparisonText, unsigned, less, at-most, greater, at-least, FractionText, fraction}
 use Rattle.operand.specs.Tests.{StandsFor, type, attribute, path, peer, network, time}
 use Rattle.operand.proofs.Samples.{unspaced}
 use Rattle.filter.proofs.Spelling.{Plain}
-use Rattle.filter.proofs.DecimalTexts.{Quotable, isPlain, digit-plain, nothing, before, join, shorter, decimal-is, decimal-quotable, address-is, address-quotable}
+use Rattle.filter.proofs.DecimalTexts.{Quotable, isPlain, digit-plain, nothing, before, join, shorter, decimal-is, as-number-is, decimal-quotable, address-is, address-quotable}
 
--- the most bytes of these operands: a pattern's items and a space behind each, with `^` and `$`
-abbrev pub operandMost : ℕ
-operandMost = 2 * weightLimit + 2
-
--- an operand that means a test
-pub record Meant (x : Test) : Type 0 where
-  pub name : Name
+-- an operand that means a test, and at most so many bytes of it
+pub record Meant (k : Name) (most : ℕ) (x : Test) : Type 0 where
   pub bytes : List ℕ
-  pub means : StandsFor name bytes x
-  pub quotable : Quotable operandMost bytes
+  pub means : StandsFor k bytes x
+  pub quotable : Quotable most bytes
 
 -- an operand of so many bytes
-meant : {most : ℕ} {k : Name} {v : List ℕ} {x : Test} → StandsFor k v x → Quotable most v → most ≤ operandMost → Meant x
-meant {k = k} {v} m q h = record { name = k; bytes = v; means = m; quotable = shorter operandMost h q }
+meant : {most : ℕ} {k : Name} {v : List ℕ} {x : Test} → StandsFor k v x → Quotable most v → Meant k most x
+meant {v = v} m q = record { bytes = v; means = m; quotable = q }
 
 -- ---- codes
 
 -- a code of a byte, whatever the names
 code-is : (names : List (Row ℕ)) {c : ℕ} → Code c → CodeOperand names (decimal c) c
-code-is names {c} w = by-code (decimal-is 256 c (w .below) (omega (arith, w .below)))
+code-is names {c} w = by-code (decimal-is byteLimit c (w .below) (omega (arith, w .below)))
 
 -- it can be quoted
 code-quotable : {c : ℕ} → Code c → Quotable 10 (decimal c)
 code-quotable {c} w = decimal-quotable c (omega (arith, w .below))
 
 -- a message type
-pub type-meant : {c : ℕ} → Code c → Meant (typeIs c)
-type-meant w = meant (type (code-is typeNames w)) (code-quotable w) (omega arith)
+pub type-meant : {c : ℕ} → Code c → Meant typeName 10 (typeIs c)
+type-meant w = meant (type (code-is typeNames w)) (code-quotable w)
 
 -- an attribute
-pub attribute-meant : {c : ℕ} → Code c → Meant (hasAttribute c)
-attribute-meant w = meant (attribute (code-is attributeNames w)) (code-quotable w) (omega arith)
+pub attribute-meant : {c : ℕ} → Code c → Meant attributeName 10 (hasAttribute c)
+attribute-meant w = meant (attribute (code-is attributeNames w)) (code-quotable w)
 
 -- ---- networks
 
@@ -82,7 +78,7 @@ network-is {n} p = record {
   lenText = decimal (n .len);
   joined = refl;
   address-is = address-is (n .address) (p .word .below);
-  len-is = decimal-is 33 (n .len) (omega (arith, p .sized)) (omega (arith, p .sized));
+  len-is = decimal-is (addressBits + 1) (n .len) (omega (arith, p .sized)) (omega (arith, p .sized));
   value = p .clear;
 }
 
@@ -91,20 +87,20 @@ network-quotable : {n : Network} → NetworkPossible n → Quotable 54 (networkB
 network-quotable {n} p = join (address-quotable (n .address) (p .word .below)) (before 47 refl (decimal-quotable (n .len) (omega (arith, p .sized))))
 
 -- a network, with `+`, `-` or nothing before it
-pub network-meant : (r : Relation) {n : Network} (s : Side) → NetworkPossible n → Meant (networkIs r n s)
-network-meant r eitherSide p = meant {k = networkName r} (network (plain (network-is p))) (network-quotable p) (omega arith)
-network-meant r announced p = meant {k = networkName r} (network (plus (network-is p))) (before 43 refl (network-quotable p)) (omega arith)
-network-meant r withdrawn p = meant {k = networkName r} (network (minus (network-is p))) (before 45 refl (network-quotable p)) (omega arith)
+pub network-meant : (r : Relation) {n : Network} (s : Side) → NetworkPossible n → Meant (networkName r) 55 (networkIs r n s)
+network-meant r eitherSide p = meant (network (plain (network-is p))) (shorter 55 (omega arith) (network-quotable p))
+network-meant r announced p = meant (network (plus (network-is p))) (before 43 refl (network-quotable p))
+network-meant r withdrawn p = meant (network (minus (network-is p))) (before 45 refl (network-quotable p))
 
 -- ---- peers
 
 -- an AS number, an address, or both with a space between
-pub peer-meant : (p : Peer) → PeerPossible p → Meant (peerIs p)
-peer-meant (byAs n) w = meant (peer (by-as (decimal-is (2 ^ 32) n (w .below) (w .below)))) (decimal-quotable n (w .below)) (omega arith)
-peer-meant (byAddress a) w = meant (peer (by-address (address-is a (w .below)))) (address-quotable a (w .below)) (omega arith)
+pub peer-meant : (p : Peer) → PeerPossible p → Meant peerName 54 (peerIs p)
+peer-meant (byAs n) w = meant (peer (by-as (as-number-is n (w .below)))) (shorter 54 (omega arith) (decimal-quotable n (w .below)))
+peer-meant (byAddress a) w = meant (peer (by-address (address-is a (w .below)))) (shorter 54 (omega arith) (address-quotable a (w .below)))
 peer-meant (byBoth a n) (v, w) =
-    meant (peer (by-both {gap = 32 ∷ []} (address-is a (v .below)) (every-more space every-none) (omega arith) (decimal-is (2 ^ 32) n (w .below) (w .below)) refl))
-    (join (address-quotable a (v .below)) (before 32 refl (decimal-quotable n (w .below)))) (omega arith)
+    meant (peer (by-both {gap = 32 ∷ []} (address-is a (v .below)) (every-more space every-none) (omega arith) (as-number-is n (w .below)) refl))
+    (join (address-quotable a (v .below)) (before 32 refl (decimal-quotable n (w .below))))
 
 -- ---- patterns
 
@@ -113,13 +109,11 @@ mark-quotable : (b : Bool) (c : ℕ) → isPlain c ≡ true → Quotable 1 (pick
 mark-quotable true c e = before c e nothing
 mark-quotable false c e = shorter 1 (omega arith) nothing
 
--- a pattern whose items are written
-pattern-meant : (p : Pattern) {text : List ℕ} → ItemsText text (p .items) → Quotable (2 * weightLimit) text → (p .start ≡ false → p .end ≡ false → p .items ≡ [] → ⊥)
-    → Meant (pathMatches p)
-pattern-meant p {text} i q f =
-    meant (path (unspaced p i f))
-    (join (mark-quotable (p .start) 94 refl) (join q (join (mark-quotable (p .end) 36 refl) nothing)))
-    (omega arith)
+-- a pattern whose items are written: their bytes, `^` and `$`
+pattern-meant : (p : Pattern) {most : ℕ} {text : List ℕ} → PartedText ItemText text (p .items) → Quotable most text → (p .start ≡ false → p .end ≡ false → p .items ≡ [] → ⊥)
+    → Meant pathName (most + 2) (pathMatches p)
+pattern-meant p {most} {text} i q f =
+    meant (path (unspaced p i f)) (shorter (most + 2) (omega arith) (join (mark-quotable (p .start) 94 refl) (join q (join (mark-quotable (p .end) 36 refl) nothing))))
 
 -- so many `.` with a space between
 dots : ℕ → List ℕ
@@ -128,11 +122,11 @@ dots (suc zero) = 46 ∷ []
 dots (suc (suc n)) = 46 ∷ 32 ∷ dots (suc n)
 
 -- each is any member
-dots-items : (n : ℕ) → ItemsText (dots n) (replicate n Any)
+dots-items : (n : ℕ) → PartedText ItemText (dots n) (replicate n Any)
 unfolding dots
 dots-items zero = empty
 dots-items (suc zero) = last any
-dots-items (suc (suc n)) = patterns.more {gap = 32 ∷ []} any (every-more space every-none) (omega arith) (dots-items (suc n)) refl
+dots-items (suc (suc n)) = parted.more {gap = 32 ∷ []} any (every-more space every-none) (omega arith) (dots-items (suc n)) refl
 
 -- they can be quoted
 dots-quotable : (n : ℕ) → Quotable (2 * n) (dots n)
@@ -146,9 +140,9 @@ abbrev pub dotted : Bool → Bool → ℕ → Pattern
 dotted s e n = record { start = s; items = replicate n Any; end = e }
 
 -- that many `.` mean it
-pub dotted-meant : {s e : Bool} {n : ℕ} → PathPossible s e n → Meant (pathMatches (dotted s e n))
+pub dotted-meant : {s e : Bool} {n : ℕ} → PathPossible s e n → Meant pathName (2 * n + 2) (pathMatches (dotted s e n))
 dotted-meant {s} {e} {n} p =
-    pattern-meant (dotted s e n) (dots-items n) (shorter (2 * weightLimit) (omega (arith, p .few)) (dots-quotable n))
+    pattern-meant (dotted s e n) (dots-items n) (dots-quotable n)
     (λ a b i. p .some a b (sym (length-replicate n Any) ∙ ap length i))
 
 -- a pattern of one item
@@ -156,13 +150,13 @@ abbrev pub alone : Item → Pattern
 alone i = record { start = false; items = i ∷ []; end = false }
 
 -- the item's text means it
-one-meant : {i : Item} {bs : List ℕ} → ItemText bs i → Quotable 11 bs → Meant (pathMatches (alone i))
-one-meant {i} t q = pattern-meant (alone i) (last t) (shorter (2 * weightLimit) (omega arith) q) (λ a b e. absurd (nil≢cons (sym e)))
+one-meant : {i : Item} {bs : List ℕ} → ItemText bs i → Quotable 11 bs → Meant pathName 13 (pathMatches (alone i))
+one-meant {i} t q = pattern-meant (alone i) (last t) q (λ a b e. absurd (nil≢cons (sym e)))
 
 -- for each item
-pub alone-meant : (i : Item) → ItemPossible i → Meant (pathMatches (alone i))
-alone-meant (Number n) w = one-meant (a-number (decimal-is (2 ^ 32) n (w .below) (w .below))) (shorter 11 (omega arith) (decimal-quotable n (w .below)))
-alone-meant (Other n) w = one-meant (not-it (decimal-is (2 ^ 32) n (w .below) (w .below))) (before 33 refl (decimal-quotable n (w .below)))
+pub alone-meant : (i : Item) → ItemPossible i → Meant pathName 13 (pathMatches (alone i))
+alone-meant (Number n) w = one-meant (a-number (as-number-is n (w .below))) (shorter 11 (omega arith) (decimal-quotable n (w .below)))
+alone-meant (Other n) w = one-meant (not-it (as-number-is n (w .below))) (before 33 refl (decimal-quotable n (w .below)))
 alone-meant Any w = one-meant any (shorter 11 (omega arith) (before 46 refl nothing))
 
 -- ---- times
@@ -231,7 +225,7 @@ unfolding micros
 micros-quotable m h = record { plain = digits-plain (micros-say m h); short = omega arith }
 
 -- a sign, seconds, a dot and six digits
-pub time-meant : (c : Comparison) {s m : ℕ} → TimePossible s m → Meant (timeIs c s m)
+pub time-meant : (c : Comparison) {s m : ℕ} → TimePossible s m → Meant timeName 19 (timeIs c s m)
 time-meant c {s} {m} p =
     meant
     (time (record {
@@ -240,8 +234,7 @@ time-meant c {s} {m} p =
       rest = 46 ∷ micros m;
       joined = refl;
       sign-is = sign-is c;
-      whole-is = decimal-is (2 ^ 32) s (p .word .below) (p .word .below);
+      whole-is = decimal-is secondsLimit s (p .word .below) (p .word .below);
       rest-is = fraction-is m (p .fraction);
     }))
     (join (sign-quotable c) (join (decimal-quotable s (p .word .below)) (before 46 refl (micros-quotable m (p .fraction)))))
-    (omega arith)

@@ -11,7 +11,7 @@ use Rattle.token.specs.Tokens.{Word, Token, bang, word}
 use Rattle.filter.specs.Grammar.{Operand, factor}
 use Rattle.filter.specs.Levels.{Open}
 use Rattle.filter.specs.Answers.{Alive, Leads, Stands}
-use Rattle.filter.specs.Reader.{Hole, State, want, operand, have, level, broken, stuck, came, fill, admit, follow, start, move, step, walk}
+use Rattle.filter.specs.Reader.{Hole, ReaderState, want, operand, have, level, broken, stuck, came, fill, admit, follow, start, move, step, walk}
 use Rattle.filter.proofs.Walks.{no-came, walk-stop, walk-takes, walk-join, walk-split, wider}
 use Rattle.filter.proofs.Complete.{name-moves, operand-fills, operand-moves}
 use Rattle.filter.proofs.Counts.{levels, levels-open}
@@ -36,18 +36,18 @@ fill-moves h none e = let z : _≡_ {A = ℕ} 0 1 = cc in omega arith
 fill-moves h (some x) e = let z : _≡_ {A = ℕ} 0 1 = cc in omega arith
 
 -- the state after tokens that are allowed, for some limit
-pub alive-reached : (L : ℕ) (ts : List Token) → Alive ts → (M : ℕ) × (s : State) × (L ≤ M) × (walk M start ts ≡ came s)
+pub alive-reached : (L : ℕ) (ts : List Token) → Alive ts → (M : ℕ) × (s : ReaderState) × (L ≤ M) × (walk M start ts ≡ came s)
 alive-reached L ts a =
     let M : ℕ = max L (levels (a .reads)) in
     let (s, e) = reached M ts (a .more) (a .reads) (omega arith) in
     (M, s, omega arith, e)
 
 -- the state after tokens that lead on
-pub leads-reached : (L : ℕ) (ts : List Token) → Leads L ts → (s : State) × (walk L start ts ≡ came s)
+pub leads-reached : (L : ℕ) (ts : List Token) → Leads L ts → (s : ReaderState) × (walk L start ts ≡ came s)
 leads-reached L ts l = reached L ts (l .more) (l .reads) (levels-open (l .reads) L .1 (l .within))
 
 -- only where a factor is wanted does `!` go on
-wanted : (M : ℕ) (s x : State) → walk M s (bang ∷ []) ≡ came x → (h : Hole factor) × (s ≡ want h)
+wanted : (M : ℕ) (s x : ReaderState) → walk M s (bang ∷ []) ≡ came x → (h : Hole factor) × (s ≡ want h)
 unfolding walk follow step admit move
 wanted M (want h) x e = (h, refl)
 wanted M (operand k h) x e = no-came _ e refl
@@ -58,7 +58,7 @@ pub operand-unstuck : (k : Name) (h : Hole factor) {t : Token} {v : Word} → Op
 operand-unstuck k h {v = v} o e = fill-moves h (meaning k v) (sym (operand-fills h k o) ∙ e)
 
 -- where an operand is wanted, one that is let in keeps its test's rule
-operand-kept : (M : ℕ) (k : Name) (h : Hole factor) {t : Token} {v : Word} → Operand t v → (s : State) → walk M (operand k h) (t ∷ []) ≡ came s
+operand-kept : (M : ℕ) (k : Name) (h : Hole factor) {t : Token} {v : Word} → Operand t v → (s : ReaderState) → walk M (operand k h) (t ∷ []) ≡ came s
     → (x : Test) × StandsFor k v x
 unfolding step admit fill
 operand-kept M k h {t} {v} o s e = by-meaning (meaning k v) refl
@@ -77,7 +77,7 @@ stands-reached : (L : ℕ) {ts : List Token} {t : Token} (st : Stands ts t) → 
 unfolding walk
 stands-reached L {ts} st = by-bang (alive-reached L (st .before ++ (bang ∷ [])) (st .begins))
   where
-    by-want : (M : ℕ) (y : State) → L ≤ M → walk M start (st .before) ≡ came y → (h : Hole factor) × (y ≡ want h)
+    by-want : (M : ℕ) (y : ReaderState) → L ≤ M → walk M start (st .before) ≡ came y → (h : Hole factor) × (y ≡ want h)
         → ToOperand L ts (st .test)
     by-want M y l f (h, p) =
         let a : walk M start (st .before) ≡ came (want h) = f ∙ ap came p in
@@ -86,11 +86,11 @@ stands-reached L {ts} st = by-bang (alive-reached L (st .before ++ (bang ∷ [])
         ∙ walk-takes M (want h) (operand (st .test) h) (word (st .named)) [] (name-moves h (st .says)) in
         (M, h, l, rw (st .joined) b)
 
-    by-split : (M : ℕ) (x : State) → L ≤ M → (y : State) × (walk M start (st .before) ≡ came y) × (walk M y (bang ∷ []) ≡ came x)
+    by-split : (M : ℕ) (x : ReaderState) → L ≤ M → (y : ReaderState) × (walk M start (st .before) ≡ came y) × (walk M y (bang ∷ []) ≡ came x)
         → ToOperand L ts (st .test)
     by-split M x l (y, f, g) = by-want M y l f (wanted M y x g)
 
-    by-bang : (M : ℕ) × (s : State) × (L ≤ M) × (walk M start (st .before ++ (bang ∷ [])) ≡ came s)
+    by-bang : (M : ℕ) × (s : ReaderState) × (L ≤ M) × (walk M start (st .before ++ (bang ∷ [])) ≡ came s)
         → ToOperand L ts (st .test)
     by-bang (M, x, l, e) = by-split M x l (walk-split M start (st .before) (bang ∷ []) x e)
 
@@ -99,7 +99,7 @@ operand-alive : {ts : List Token} {t : Token} (st : Stands ts t) → Alive (ts +
 unfolding walk
 operand-alive {ts} {t} st = (λ a. forth a (stands-reached 0 st), λ x. back x (stands-reached 0 st))
   where
-    by-walk : (M N : ℕ) (h : Hole factor) (s : State) → M ≤ N → walk M start ts ≡ came (operand (st .test) h) → walk N start (ts ++ (t ∷ [])) ≡ came s
+    by-walk : (M N : ℕ) (h : Hole factor) (s : ReaderState) → M ≤ N → walk M start ts ≡ came (operand (st .test) h) → walk N start (ts ++ (t ∷ [])) ≡ came s
         → (x : Test) × StandsFor (st .test) (st .bytes) x
     by-walk M N h s l f e =
         operand-kept N (st .test) h (st .operand) s (sym (walk-join N start ts (t ∷ []) _ (wider M N l start ts _ f)) ∙ e)
@@ -115,7 +115,7 @@ operand-alive {ts} {t} st = (λ a. forth a (stands-reached 0 st), λ x. back x (
 pub broken-dead : {ts : List Token} {t : Token} (st : Stands ts t) → ((x : Test) → StandsFor (st .test) (st .bytes) x → ⊥) → Alive (ts ++ (t ∷ [])) → ⊥
 broken-dead st n a = let (x, m) = operand-alive st .0 a in n x m
 
-module _ (L : ℕ) (ts : List Token) (s : State) (came-to : walk L start ts ≡ came s) where
+module _ (L : ℕ) (ts : List Token) (s : ReaderState) (came-to : walk L start ts ≡ came s) where
   -- where t stands as an operand, the walk has come to its test's operand
   pub operand-there : {t : Token} (st : Stands ts t) → (h : Hole factor) × (s ≡ operand (st .test) h)
   operand-there st =

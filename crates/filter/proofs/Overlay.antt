@@ -9,7 +9,8 @@ use lib.Seq.{sets, set-comm}
 use Rattle.octets.proofs.Writes.{sets-append}
 use Rattle.program.specs.Readings.{Operator, Reading, neg, joint, weight}
 use Rattle.program.specs.Records.{Record, flip, pass}
-use Rattle.program.specs.Layout.{recordSize, fieldsOf, fields, laid, operatorKind, encode, encodeAll}
+use Rattle.program.specs.Kinds.{flipKind, operatorKind}
+use Rattle.program.specs.Layout.{recordSize, fieldsOf, fields, laid, encode, encodeAll}
 use Rattle.program.specs.Compiling.{records, programOf}
 use Rattle.program.proofs.LayoutLaws.{encode-length, encodeAll-length, encodeAll-append}
 use Rattle.program.proofs.MachineLaws.{length-records}
@@ -44,10 +45,10 @@ laid-gap r more l n =
 
 -- a flip behind the records of a reading
 pub wrote-flip : (r : Reading) (old : List ℕ) (n : ℕ) {mid new : List ℕ} {m : ℕ} → mid ≡ sets old (recordSize * n) (programOf r) → m ≡ n + weight r
-    → new ≡ sets mid (recordSize * m) (laid (fields 10 0 0 0 0)) → new ≡ sets old (recordSize * n) (programOf (neg r))
+    → new ≡ sets mid (recordSize * m) (laid (fields flipKind 0 0 0 0)) → new ≡ sets old (recordSize * n) (programOf (neg r))
 unfolding records fieldsOf encodeAll
 wrote-flip r old n {m = m} e c f =
-    f ∙ rw (e, ← append-nil (laid (fields 10 0 0 0 0))) (laid-behind (records r) (flip ∷ []) old n m (omega (arith, length-records r)))
+    f ∙ rw (e, ← append-nil (laid (fields flipKind 0 0 0 0))) (laid-behind (records r) (flip ∷ []) old n m (omega (arith, length-records r)))
 
 -- a pass in the gap between the records of two readings
 pub wrote-pass : (o : Operator) (a b : Reading) (old : List ℕ) (n : ℕ) {mid late new : List ℕ} {m j : ℕ} → mid ≡ sets old (recordSize * n) (programOf a) → m ≡ n + weight a

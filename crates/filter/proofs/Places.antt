@@ -9,7 +9,7 @@ use Rattle.program.specs.Readings.{Reading}
 use Rattle.token.specs.Tokens.{Token, Placed, placed, Lexes}
 use Rattle.filter.specs.Grammar.{expression, Reads}
 use Rattle.filter.specs.Levels.{levelLimit, openAt}
-use Rattle.filter.specs.Answers.{Leads, Has, bare, Fine, Reaches, DerivedWithin, Answers}
+use Rattle.filter.specs.Answers.{Leads, Has, bare, Fine, Reaches, DerivedWithin, TextAnswers}
 use Rattle.filter.specs.Answers as answers
 use Rattle.filter.specs.Answering.{refusalOf, startOf, placeOf}
 use Rattle.filter.specs.Reader.{Why, refused, read}
@@ -85,12 +85,12 @@ reaches text e ps ts t us l q w = by-parts (parted ps ts (t ∷ us) q)
 
 module _ {text : List ℕ} {room : ℕ} (ps : List Placed) (fine : Fine text) (lexed : Lexes 0 text ps) where
   -- the same, with the tokens named
-  judged-answers : {ts us : List Token} {w : Why} → bare ps ≡ ts → Judged levelLimit ts (refused w us) → Answers text room (answers.refused (refusalOf w) (placeOf (length text) ps us))
+  judged-answers : {ts us : List Token} {w : Why} → bare ps ≡ ts → Judged levelLimit ts (refused w us) → TextAnswers text room (answers.refused (refusalOf w) (placeOf (length text) ps us))
   judged-answers e (at-token ts t us l h) = answers.bad-first fine (reaches text (length text) ps ts t us lexed e l) h
   judged-answers e (bad-end l f) = rw (place-end (length text) ps) (answers.bad-end ps fine lexed (rw e l) (rw e f))
 
   -- a refusal of the text's tokens is the text's answer
-  pub refused-answers : {us : List Token} {w : Why} → Judged levelLimit (bare ps) (refused w us) → Answers text room (answers.refused (refusalOf w) (placeOf (length text) ps us))
+  pub refused-answers : {us : List Token} {w : Why} → Judged levelLimit (bare ps) (refused w us) → TextAnswers text room (answers.refused (refusalOf w) (placeOf (length text) ps us))
   refused-answers j = judged-answers refl j
 
 -- a reading of the text's tokens is derived for the text

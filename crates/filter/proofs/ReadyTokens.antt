@@ -1,4 +1,4 @@
--- The token that a grammar function stands at: its place, its kind, its role, and the token behind it. Assumes nothing.
+-- The token that a grammar function stands at: its place, its sort, its role, and the token behind it. Assumes nothing.
 use Prim.Native.Nat.{ℕ, _+_, _≤_, _<_}
 use native.Mathlib.Omega.{arith}
 use mathlib.Core.Path.{_≡_, refl, sym, ap, _∙_}
@@ -15,11 +15,11 @@ use Rattle.program.specs.Readings.{Operator, and, or}
 use Rattle.token.specs.Texts.{textLimit}
 use Rattle.token.specs.Tokens.{Word, Token, open′, close, bang, word, quoted}
 use Rattle.token.specs.Next.{nextAt, bytesIn, tokenOf, tokenIn}
-use Rattle.token.specs.declared.Kind.{Kind}
-use Rattle.token.specs.declared.Kind.the-variants.{End, Open, Close, Bang, Word as aWord, Quoted, Unclosed}
+use Rattle.token.specs.declared.Sort.{Sort}
+use Rattle.token.specs.declared.Sort.the-variants.{End, Open, Close, Bang, Word as aWord, Quoted, Unclosed}
 use Rattle.token.specs.declared.Lexeme.{Lexeme}
-use Rattle.token.proofs.Kind as kinds
-use Rattle.token.proofs.Nexts.{kind-token, next-closed, next-token}
+use Rattle.token.proofs.Sort as sorts
+use Rattle.token.proofs.Nexts.{sort-token, next-closed, next-token}
 use Rattle.filter.specs.Words.{Role, joins, flag, name, roleOf}
 use Rattle.filter.specs.Answering.{startOf}
 use Rattle.filter.specs.Parsing.{roleSaid, roleIn, firstRole, from, Ready, opensLevel}
@@ -30,31 +30,31 @@ use Rattle.filter.proofs.Steps.{end-none, ready-next, from-next, fewer-
 
 module _ {text : List ℕ} {t : Lexeme} {n : ℕ} (ready : Ready text t n) where
   -- every quote is closed
-  pub ready-closed : t .kind ≡ Unclosed → ⊥
-  ready-closed k = next-closed (ready .closed) (ap (λ (l : Lexeme). l .kind) (ready .here) ∙ k)
+  pub ready-closed : t .sort ≡ Unclosed → ⊥
+  ready-closed k = next-closed (ready .closed) (ap (λ (l : Lexeme). l .sort) (ready .here) ∙ k)
 
   -- the bytes of a token are no more than its places
   pub token-sized : {a : Token} → tokenIn text t ≡ some a → length (bytesIn text t) + t .start ≤ t .end
   token-sized token = rw (ready .here) at (next-token (ready .closed) (ap (tokenIn text) (ready .here) ∙ token) .sized)
 
 -- a token that is ready is the end, or one of the language
-pub end-or-token : {text : List ℕ} {t : Lexeme} {n : ℕ} → Ready text t n → (t .kind ≡ End) ⊎ ((a : Token) × (tokenIn text t ≡ some a))
-end-or-token {text} {t} ready = by-kind (t .kind) refl
+pub end-or-token : {text : List ℕ} {t : Lexeme} {n : ℕ} → Ready text t n → (t .sort ≡ End) ⊎ ((a : Token) × (tokenIn text t ≡ some a))
+end-or-token {text} {t} ready = by-sort (t .sort) refl
   where
-    by-kind : (k : Kind) → t .kind ≡ k → (t .kind ≡ End) ⊎ ((a : Token) × (tokenIn text t ≡ some a))
-    by-kind End e = inl e
-    by-kind Open e = inr (open′, kind-token text t e)
-    by-kind Close e = inr (close, kind-token text t e)
-    by-kind Bang e = inr (bang, kind-token text t e)
-    by-kind aWord e = inr (word (bytesIn text t), kind-token text t e)
-    by-kind Quoted e = inr (quoted (bytesIn text t), kind-token text t e)
-    by-kind Unclosed e = absurd (ready-closed ready e)
+    by-sort : (k : Sort) → t .sort ≡ k → (t .sort ≡ End) ⊎ ((a : Token) × (tokenIn text t ≡ some a))
+    by-sort End e = inl e
+    by-sort Open e = inr (open′, sort-token text t e)
+    by-sort Close e = inr (close, sort-token text t e)
+    by-sort Bang e = inr (bang, sort-token text t e)
+    by-sort aWord e = inr (word (bytesIn text t), sort-token text t e)
+    by-sort Quoted e = inr (quoted (bytesIn text t), sort-token text t e)
+    by-sort Unclosed e = absurd (ready-closed ready e)
 
 -- its place is where the tokens from it on start
 pub start-here : {text : List ℕ} {t : Lexeme} {n : ℕ} → Ready text t n → startOf (length text) (from text t) ≡ t .start
 start-here {text} {t} ready = go (end-or-token ready)
   where
-    go : (t .kind ≡ End) ⊎ ((a : Token) × (tokenIn text t ≡ some a)) → startOf (length text) (from text t) ≡ t .start
+    go : (t .sort ≡ End) ⊎ ((a : Token) × (tokenIn text t ≡ some a)) → startOf (length text) (from text t) ≡ t .start
     go (inl e) = start-end ready e
     go (inr (a, e)) = start-token ready e
 
@@ -63,8 +63,8 @@ pub first-role : {text : List ℕ} {t : Lexeme} {n : ℕ} → Ready text t n →
 unfolding firstRole
 first-role {text} {t} ready = go (end-or-token ready)
   where
-    go : (t .kind ≡ End) ⊎ ((a : Token) × (tokenIn text t ≡ some a)) → firstRole (from text t) ≡ roleIn (tokenIn text t)
-    go (inl e) = ap firstRole (end-none ready e .0) ∙ sym (ap roleIn (kind-token text t e))
+    go : (t .sort ≡ End) ⊎ ((a : Token) × (tokenIn text t ≡ some a)) → firstRole (from text t) ≡ roleIn (tokenIn text t)
+    go (inl e) = ap firstRole (end-none ready e .0) ∙ sym (ap roleIn (sort-token text t e))
     go (inr (a, e)) = ap firstRole (from-next ready e) ∙ sym (ap roleIn e)
 
 -- a token with a role is a word
@@ -95,7 +95,7 @@ module _ {text : List ℕ} {t : Lexeme} {n : ℕ} (ready : Ready text t n) {a : 
   pub next-fewer : length (from text l) < length (from text t)
   next-fewer = rw next (fewer-next ready token)
 
--- ---- kinds and roles by their tags
+-- ---- sorts and roles by their tags
 
 -- the tag of an answer that says an operator
 abbrev operatorTag : Operator → ℕ
@@ -116,8 +116,8 @@ pub not-joint : (o : Operator) (ks : List ℕ) → T (not (hasKey ks (operatorTa
     → x ≡ some (joins o) → ⊥
 not-joint o ks m r s k e = miss ks (operatorTag o) m (rw (joint-tag o r (s ∙ e)) at k)
 
--- `)` has its kind
-pub close-tag : (k : Kind) (w : Word) → tokenOf k w ≡ some close → tagOf kinds.the-type k ≡ 2
+-- `)` has its sort
+pub close-tag : (k : Sort) (w : Word) → tokenOf k w ≡ some close → tagOf sorts.the-type k ≡ 2
 close-tag End w e = let z : _≡_ {A = ℕ} 0 1 = cc in absurd (omega arith)
 close-tag Open w e = let z : _≡_ {A = ℕ} 0 1 = cc in absurd (omega arith)
 close-tag Close w e = refl
@@ -127,7 +127,7 @@ close-tag Quoted w e = let z : _≡_ {A = ℕ} 0 1 = cc in absurd (omega arith)
 close-tag Unclosed w e = let z : _≡_ {A = ℕ} 0 1 = cc in absurd (omega arith)
 
 -- where `(` and `!` are dealt with, no level is opened
-pub no-level : (k : Kind) → OneOf (0 ∷ 2 ∷ 4 ∷ 5 ∷ 6 ∷ []) (tagOf kinds.the-type k) → opensLevel k ≡ false
+pub no-level : (k : Sort) → OneOf (0 ∷ 2 ∷ 4 ∷ 5 ∷ 6 ∷ []) (tagOf sorts.the-type k) → opensLevel k ≡ false
 no-level End o = refl
 no-level Open o = absurd (miss (0 ∷ 2 ∷ 4 ∷ 5 ∷ 6 ∷ []) 1 tt o)
 no-level Close o = refl

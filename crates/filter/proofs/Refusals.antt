@@ -16,7 +16,7 @@ use Rattle.filter.specs.Levels.{openAt, Open}
 use Rattle.filter.specs.Answers.{Alive, Leads, Opener, Has, bad-token, bad-operand, too-deep}
 use Rattle.filter.specs.declared.Refusal.{Refusal}
 use Rattle.filter.specs.Answering.{refusalOf}
-use Rattle.filter.specs.Reader.{depth, State, operand, level, Why, bad, broken, deep, Move, takes, opens, stuck, breaks, Step, go, stop, came, Answer, ok, refused, admit, follow, finish, conclude, answered, start, move, step, walk, read}
+use Rattle.filter.specs.Reader.{depth, ReaderState, operand, level, Why, bad, broken, deep, Move, takes, opens, stuck, breaks, Step, go, stop, came, ReaderAnswer, ok, refused, admit, follow, finish, conclude, answered, start, move, step, walk, read}
 use Rattle.filter.proofs.Walks.{no-came, step-takes, step-opens, walk-go, walk-stop, walk-join, wider}
 use Rattle.filter.proofs.Complete.{derived-walks, complete}
 use Rattle.filter.proofs.Leveled.{Leveled, move-level, walk-within}
@@ -40,7 +40,7 @@ deep-ends : {L : ℕ} {ts : List Token} → Open ts (suc L) → Leads L ts → �
 unfolding level depth
 deep-ends {L} {ts} o l = by-walk (leads-reached L ts l)
   where
-    by-walk : (s : State) × (walk L start ts ≡ came s) → ⊥
+    by-walk : (s : ReaderState) × (walk L start ts ≡ came s) → ⊥
     by-walk (s, e) =
         let i : level s ≤ L = walk-within L start ts s (omega arith) e in
         let j : suc L ≡ level s = open-one o (opened L ts s e) in
@@ -82,12 +82,12 @@ why-once deep bad e = cc
 why-once deep broken e = cc
 why-once deep deep e = refl
 
-module _ (L : ℕ) (ts : List Token) (s : State) (came-to : walk L start ts ≡ came s) where
+module _ (L : ℕ) (ts : List Token) (s : ReaderState) (came-to : walk L start ts ≡ came s) where
   -- a token that the state refuses, whatever the limit, is allowed by no continuation
   dead : (t : Token) (w : Why) → ((M : ℕ) → step M s t ≡ stop w) → Alive (ts ++ (t ∷ [])) → ⊥
   dead t w f a = by-walk (alive-reached L (ts ++ (t ∷ [])) a)
     where
-      by-walk : (M : ℕ) × (x : State) × (L ≤ M) × (walk M start (ts ++ (t ∷ [])) ≡ came x) → ⊥
+      by-walk : (M : ℕ) × (x : ReaderState) × (L ≤ M) × (walk M start (ts ++ (t ∷ [])) ≡ came x) → ⊥
       by-walk (M, x, l, e) =
           no-came (walk M start (ts ++ (t ∷ []))) e (walk-join M start ts (t ∷ []) s (wider L M l start ts s came-to) ∙ walk-stop M s w t [] (f M))
 
@@ -97,11 +97,11 @@ Stepped L ts t (go s) = walk L start (ts ++ (t ∷ [])) ≡ came s
 Stepped L ts t (stop w) = Has L ts t (refusalOf w)
 
 -- every step says so
-stepped : (L : ℕ) (ts : List Token) (s : State) (t : Token) → walk L start ts ≡ came s → Stepped L ts t (step L s t)
+stepped : (L : ℕ) (ts : List Token) (s : ReaderState) (t : Token) → walk L start ts ≡ came s → Stepped L ts t (step L s t)
 unfolding step admit walk level depth
 stepped L ts s t e = by-move (move s t) refl (move-at ts s t (walk-at L ts s e)) (move-level s t) (ltb (level s) L) refl
   where
-    came-on : (M : ℕ) (x : State) → L ≤ M → step M s t ≡ go x → walk M start (ts ++ (t ∷ [])) ≡ came x
+    came-on : (M : ℕ) (x : ReaderState) → L ≤ M → step M s t ≡ go x → walk M start (ts ++ (t ∷ [])) ≡ came x
     came-on M x l q = walk-join M start ts (t ∷ []) s (wider L M l start ts s e) ∙ walk-go M s x t [] q
 
     by-move : (m : Move) → move s t ≡ m → Moved ts t m → Leveled t (level s) m → (b : Bool) → ltb (level s) L ≡ b → Stepped L ts t (admit b m)
@@ -131,19 +131,19 @@ deep-opener {L} {ts} {t} l o = by-walk (leads-reached L ts l)
     by-step (go s) w = absurd (deep-ends o (leads L _ s w))
     by-step (stop w) h = by-refusal h
 
-    by-walk : (s : State) × (walk L start ts ≡ came s) → Opener t
+    by-walk : (s : ReaderState) × (walk L start ts ≡ came s) → Opener t
     by-walk (s, e) = by-step (step L s t) (stepped L ts s t e)
 
 -- ---- the answer is one that the words give
 
 -- what the words say of an answer: for the tokens ts, with at most L levels open at once
-pub data Judged (L : ℕ) : List Token → Answer → Type 0 where
+pub data Judged (L : ℕ) : List Token → ReaderAnswer → Type 0 where
   reads : {ts : List Token} {r : Reading} (d : Reads expression ts r) → ((n : ℕ) → openAt d n ≤ L) → Judged L ts (ok r)
   at-token : (ts : List Token) (t : Token) (us : List Token) {w : Why} → Leads L ts → Has L ts t (refusalOf w) → Judged L (ts ++ (t ∷ us)) (refused w (t ∷ us))
   bad-end : {ts : List Token} → Leads L ts → ((r : Reading) → Reads expression ts r → ⊥) → Judged L ts (refused bad [])
 
 -- the end, and the rest of the tokens, by the state
-judged-end : (L : ℕ) (ts : List Token) (s : State) → walk L start ts ≡ came s → Judged L ts (conclude (finish s))
+judged-end : (L : ℕ) (ts : List Token) (s : ReaderState) → walk L start ts ≡ came s → Judged L ts (conclude (finish s))
 unfolding conclude
 judged-end L ts s e = by-end (finish s) refl (finish-at ts s (walk-at L ts s e))
   where
@@ -158,12 +158,12 @@ judged-end L ts s e = by-end (finish s) refl (finish-at ts s (walk-at L ts s e))
     by-end none p w = bad-end (leads L ts s e) (none-derived p)
     by-end (some r) p w = reads w (levels-open w L .0 (levels-within L ts s e w))
 
-walk-judged : (L : ℕ) (ts : List Token) (s : State) (us : List Token) → walk L start ts ≡ came s → Judged L (ts ++ us) (answered (walk L s us))
+walk-judged : (L : ℕ) (ts : List Token) (s : ReaderState) (us : List Token) → walk L start ts ≡ came s → Judged L (ts ++ us) (answered (walk L s us))
 unfolding walk follow answered
 walk-judged L ts s [] e = rw (append-nil ts) (judged-end L ts s e)
 walk-judged L ts s (t ∷ us) e = by-step (step L s t) (stepped L ts s t e) (λ vs x. walk-judged L vs x us)
   where
-    by-step : (x : Step) → Stepped L ts t x → ((vs : List Token) (y : State) → walk L start vs ≡ came y → Judged L (vs ++ us) (answered (walk L y us)))
+    by-step : (x : Step) → Stepped L ts t x → ((vs : List Token) (y : ReaderState) → walk L start vs ≡ came y → Judged L (vs ++ us) (answered (walk L y us)))
         → Judged L (ts ++ (t ∷ us)) (answered (follow x (λ y. walk L y us) (t ∷ us)))
     by-step (go y) w f = rw (append-assoc ts (t ∷ []) us) at (f (ts ++ (t ∷ [])) y w)
     by-step (stop y) w f = at-token ts t us (leads L ts s e) w
@@ -181,11 +181,11 @@ stops : (L : ℕ) (ts : List Token) (t : Token) (us : List Token) (w : Why) → 
 unfolding read answered
 stops L ts t us w l f = by-walk (leads-reached L ts l)
   where
-    by-walk : (s : State) × (walk L start ts ≡ came s) → answered (walk L start (ts ++ (t ∷ us))) ≡ refused w (t ∷ us)
+    by-walk : (s : ReaderState) × (walk L start ts ≡ came s) → answered (walk L start (ts ++ (t ∷ us))) ≡ refused w (t ∷ us)
     by-walk (s, e) = ap answered (walk-join L start ts (t ∷ us) s e ∙ walk-stop L s w t us (f (step L s t) (stepped L ts s t e)))
 
 -- what the words give is the reader's answer
-pub only : (L : ℕ) {ts : List Token} {a : Answer} → Judged L ts a → read L ts ≡ a
+pub only : (L : ℕ) {ts : List Token} {a : ReaderAnswer} → Judged L ts a → read L ts ≡ a
 unfolding read answered conclude
 only L (reads d l) = complete L d l
 only L (at-token ts t us {w} l h) = stops L ts t us w l by-step
@@ -199,7 +199,7 @@ only L (bad-end {ts} l none-of) = by-walk (leads-reached L ts l)
     by-end none w = refl
     by-end (some r) w = absurd (none-of r w)
 
-    by-walk : (s : State) × (walk L start ts ≡ came s) → answered (walk L start ts) ≡ refused bad []
+    by-walk : (s : ReaderState) × (walk L start ts ≡ came s) → answered (walk L start ts) ≡ refused bad []
     by-walk (s, e) = ap answered e ∙ by-end (finish s) (finish-at ts s (walk-at L ts s e))
 
 -- ---- what leads on
@@ -211,7 +211,7 @@ leads-exactly L ts = (forth, back (judged L ts))
     forth : Leads L ts → (xs ys : List Token) (u : Token) (k : Refusal) → ts ≡ xs ++ (u ∷ ys) → Has L xs u k → ⊥
     forth l xs ys u k e h = has-ends h (earlier (xs ++ (u ∷ [])) ys (rw (append-assoc xs (u ∷ []) ys, ← e) l))
 
-    back : {us : List Token} {a : Answer} → Judged L us a → ((xs ys : List Token) (u : Token) (k : Refusal) → us ≡ xs ++ (u ∷ ys) → Has L xs u k → ⊥) → Leads L us
+    back : {us : List Token} {a : ReaderAnswer} → Judged L us a → ((xs ys : List Token) (u : Token) (k : Refusal) → us ≡ xs ++ (u ∷ ys) → Has L xs u k → ⊥) → Leads L us
     back (reads {ts = us} {r} d w) f = by-end (rw (append-nil us) (d, w))
       where
         by-end : (e : Reads expression (us ++ []) r) × ((n : ℕ) → openAt e n ≤ L) → Leads L us

@@ -9,7 +9,7 @@ use Rattle.token.proofs.AllowedBytes.{forbidden-none}
 use Rattle.token.proofs.Lexing.{unclosed-none}
 use Rattle.filter.specs.Levels.{levelLimit}
 use Rattle.filter.specs.declared.Refusal.{Refusal}
-use Rattle.filter.specs.Answers.{numberOf, Has, bad-token, bad-operand, too-deep, Fine, Reaches, Derived, Outcome, Answers, too-long, forbidden, unclosed, bad-first, bad-end, too-heavy, no-room, compiles}
+use Rattle.filter.specs.Answers.{numberOf, Has, bad-token, bad-operand, too-deep, Fine, Reaches, Derived, TextOutcome, TextAnswers, too-long, forbidden, unclosed, bad-first, bad-end, too-heavy, no-room, compiles}
 use Rattle.filter.specs.Refused.{FirstToken, FirstRefused, not-allowed, level-too-many, the-end}
 use Rattle.filter.specs.Functions.{compiling}
 use Rattle.filter.proofs.Operands.{broken-dead}
@@ -36,7 +36,7 @@ token-refused x (bad-operand s f) = not-allowed (first-token x) (broken-dead s f
 token-refused x (too-deep t o) = level-too-many (first-token x) t o
 
 -- a text that could be derived by its size, bytes and quotes, and isn't: what it is answered is the first refusal
-pub first-refused : {text : List ℕ} {room : ℕ} {o : Outcome} {tokens : List Placed} (buffer : List ℕ) → Answers text room o → Fine text
+pub first-refused : {text : List ℕ} {room : ℕ} {o : TextOutcome} {tokens : List Placed} (buffer : List ℕ) → TextAnswers text room o → Fine text
     → Lexes 0 text tokens → ((r : Reading) → Derived text r → ⊥) → FirstRefused text (compiling o buffer .number) (compiling o buffer .value)
 first-refused buffer (too-long h) f l n = absurd (omega (arith, f .short))
 first-refused buffer (forbidden h x) f l n = absurd (forbidden-none x (f .allowed))

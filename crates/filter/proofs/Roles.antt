@@ -5,8 +5,8 @@ use mathlib.Core.Bool.{true}
 use mathlib.Core.Option.{some, none}
 use mathlib.Core.List.{List, [], _∷_}
 use Rattle.token.specs.Next.{bytesIn, tokenOf, tokenIn}
-use Rattle.token.specs.declared.Kind.{Kind}
-use Rattle.token.specs.declared.Kind.the-variants.{End, Open, Close, Bang, Word, Quoted, Unclosed}
+use Rattle.token.specs.declared.Sort.{Sort}
+use Rattle.token.specs.declared.Sort.the-variants.{End, Open, Close, Bang, Word, Quoted, Unclosed}
 use Rattle.token.specs.declared.Lexeme.{Lexeme}
 use Rattle.program.specs.Readings.{and, hasLoop}
 use Rattle.filter.specs.Parsing.{operandRows, roleIn}
@@ -55,10 +55,10 @@ names-differ = refl
 -- ---- tokens
 
 -- what is no word says nothing
-pub no-word : (text : List ℕ) (t : Lexeme) → (t .kind ≡ Word → ⊥) → roleIn (tokenIn text t) ≡ none
-no-word text t n = go (t .kind) n
+pub no-word : (text : List ℕ) (t : Lexeme) → (t .sort ≡ Word → ⊥) → roleIn (tokenIn text t) ≡ none
+no-word text t n = go (t .sort) n
   where
-    go : (k : Kind) → (k ≡ Word → ⊥) → roleIn (tokenOf k (bytesIn text t)) ≡ none
+    go : (k : Sort) → (k ≡ Word → ⊥) → roleIn (tokenOf k (bytesIn text t)) ≡ none
     go End n = refl
     go Open n = refl
     go Close n = refl

@@ -11,7 +11,7 @@ use Rattle.octets.specs.Choice.{pick}
 use Rattle.octets.specs.Lists.{Every, every-none, every-more}
 use Rattle.octets.proofs.Choices.{each}
 use Rattle.network.specs.declared.Relation.the-variants.{Exact, Supernet, Subnet, Related}
-use Rattle.program.specs.Readings.{hasBogon, Operator, and, or}
+use Rattle.program.specs.Readings.{hasLoop, hasBogon, Operator, and, or}
 use Rattle.operand.specs.declared.Name.{Name}
 use Rattle.operand.specs.declared.Name.the-variants.{MessageType as typeName, Attribute as attributeName, Path as pathName, Peer as peerName, Time as timeName, Network as networkName}
 use Rattle.filter.specs.Words.{Role, joins, flag, name, vocabulary, Says}
@@ -36,9 +36,9 @@ wordly-sound (b ∷ bs) e =
     let y = each (leb 45 b) (leb b 126) (x .0) in
     every-more (record { low = leb-true 45 b (y .0); high = leb-true b 126 (y .1) }) (wordly-sound bs (x .1))
 
--- and there are one to ten
+-- and there is one
 writable : List ℕ → Bool
-writable w = pick (leb 1 (length w)) (pick (leb (length w) 10) (wordly w) false) false
+writable w = pick (leb 1 (length w)) (wordly w) false
 
 -- so it is with every row
 all-writable : Every (λ (e : Row Role). writable (e .word) ≡ true) vocabulary
@@ -47,51 +47,64 @@ all-writable =
     every-more refl (every-more refl (every-more refl (every-more refl (every-more refl (every-more refl (every-more refl (every-more refl
     (every-more refl (every-more refl (every-more refl (every-more refl (every-more refl every-none))))))))))))
 
--- a word of the language: its bytes, and one to ten of them
+-- a word of the language: its bytes, and one at least
 pub record Written (w : List ℕ) : Type 0 where
   pub some : 1 ≤ length w
-  pub few : length w ≤ 10
   pub bytes : Every Wordly w
 
 -- every word that says something is one
 pub said-written : {w : List ℕ} {r : Role} → Says w r → Written w
 unfolding writable
 said-written {w} s =
-    let x = each (leb 1 (length w)) (pick (leb (length w) 10) (wordly w) false) (in-each (λ (v : List ℕ) (r : Role). writable v ≡ true) all-writable s) in
-    let y = each (leb (length w) 10) (wordly w) (x .1) in
-    record { some = leb-true 1 (length w) (x .0); few = leb-true (length w) 10 (y .0); bytes = wordly-sound w (y .1) }
+    let x = each (leb 1 (length w)) (wordly w) (in-each (λ (v : List ℕ) (r : Role). writable v ≡ true) all-writable s) in
+    record { some = leb-true 1 (length w) (x .0); bytes = wordly-sound w (x .1) }
 
 -- ---- every role is said by a word
 
--- a word that says this
-pub record Said (r : Role) : Type 0 where
+-- a word that says this, of at most so many bytes
+pub record Said (most : ℕ) (r : Role) : Type 0 where
   pub word : List ℕ
   pub says : Says word r
+  pub few : length word ≤ most
 
 -- a row's word says the row's role
-row-said : (i : ℕ) → i < length vocabulary → Said (getD vocabulary i past .value)
-row-said i h = record { word = getD vocabulary i past .word; says = in-place vocabulary past i h }
+row-said : (i : ℕ) {most : ℕ} → i < length vocabulary → length (getD vocabulary i past .word) ≤ most → Said most (getD vocabulary i past .value)
+row-said i h few = record { word = getD vocabulary i past .word; says = in-place vocabulary past i h; few = few }
+
+-- `-loops`
+pub loop-said : Said 6 (flag hasLoop)
+unfolding vocabulary
+loop-said = row-said 2 (omega arith) (omega arith)
 
 -- `-bogon-asn`
-pub bogon-said : Said (flag hasBogon)
+pub bogon-said : Said 10 (flag hasBogon)
 unfolding vocabulary
-bogon-said = row-said 3 (omega arith)
+bogon-said = row-said 3 (omega arith) (omega arith)
 
 -- `-and`, `-or`
-pub join-said : (o : Operator) → Said (joins o)
+pub join-said : (o : Operator) → Said 4 (joins o)
 unfolding vocabulary
-join-said and = row-said 0 (omega arith)
-join-said or = row-said 1 (omega arith)
+join-said and = row-said 0 (omega arith) (omega arith)
+join-said or = row-said 1 (omega arith) (omega arith)
+
+-- the most bytes of a test's name
+abbrev pub nameMost : Name → ℕ
+nameMost typeName = 5
+nameMost attributeName = 5
+nameMost pathName = 7
+nameMost peerName = 5
+nameMost (networkName r) = 9
+nameMost timeName = 10
 
 -- the names of tests
-pub name-said : (k : Name) → Said (name k)
+pub name-said : (k : Name) → Said (nameMost k) (name k)
 unfolding vocabulary
-name-said typeName = row-said 4 (omega arith)
-name-said attributeName = row-said 5 (omega arith)
-name-said pathName = row-said 6 (omega arith)
-name-said peerName = row-said 7 (omega arith)
-name-said (networkName Exact) = row-said 8 (omega arith)
-name-said (networkName Supernet) = row-said 9 (omega arith)
-name-said (networkName Subnet) = row-said 10 (omega arith)
-name-said (networkName Related) = row-said 11 (omega arith)
-name-said timeName = row-said 12 (omega arith)
+name-said typeName = row-said 4 (omega arith) (omega arith)
+name-said attributeName = row-said 5 (omega arith) (omega arith)
+name-said pathName = row-said 6 (omega arith) (omega arith)
+name-said peerName = row-said 7 (omega arith) (omega arith)
+name-said (networkName Exact) = row-said 8 (omega arith) (omega arith)
+name-said (networkName Supernet) = row-said 9 (omega arith) (omega arith)
+name-said (networkName Subnet) = row-said 10 (omega arith) (omega arith)
+name-said (networkName Related) = row-said 11 (omega arith) (omega arith)
+name-said timeName = row-said 12 (omega arith) (omega arith)

@@ -9,14 +9,15 @@ use lib.Seq.{sets, length-sets}
 use Rattle.octets.specs.Writes.{Written}
 use Rattle.program.specs.declared.Fields.{Fields}
 use Rattle.program.specs.Readings.{Operator, and, or, Reading, joint, weight}
-use Rattle.program.specs.Layout.{recordSize, fields, laid, operatorKind}
+use Rattle.program.specs.Kinds.{operatorKind}
+use Rattle.program.specs.Layout.{recordSize, fields, laid}
 use Rattle.program.specs.Compiling.{programOf}
 use Rattle.token.specs.Tokens.{Word, word}
 use Rattle.token.specs.Next.{nextAt, tokenIn}
 use Rattle.token.specs.declared.Lexeme.{Lexeme}
 use Rattle.filter.specs.Words.{joins, roleOf}
 use Rattle.filter.specs.Grammar.{Part, expression, conjunction, factor}
-use Rattle.filter.specs.Reader.{Hole, first, oring, head, anding, depth, State, want, takes, settle, outer, again, join, move}
+use Rattle.filter.specs.Reader.{Hole, first, oring, head, anding, depth, ReaderState, want, takes, settle, outer, again, join, move}
 use Rattle.filter.specs.Parsing.{roleIn, firstRole, from, run, begins, Stood, Over, Ready, Read, PartSays}
 use Rattle.filter.specs.declared.Refusal.{Refusal}
 use Rattle.filter.specs.declared.Parsed.{Parsed}
@@ -65,19 +66,19 @@ depth-behind and a h = refl
 depth-behind or a h = refl
 
 -- a first side that was read
-stood-alone : (o : Operator) (r : Reading) (h : Hole (chain o)) (s : State) → Stood (side o) r (alone o h) s → Stood (chain o) r h s
+stood-alone : (o : Operator) (r : Reading) (h : Hole (chain o)) (s : ReaderState) → Stood (side o) r (alone o h) s → Stood (chain o) r h s
 unfolding Stood settle outer
 stood-alone and r h s e = e
 stood-alone or r h s e = (r, first h, refl, e)
 
 -- one behind others
-stood-behind : (o : Operator) (a b : Reading) (h : Hole (chain o)) (s : State) → Stood (side o) b (behind o a h) s → Stood (chain o) (joint o a b) h s
+stood-behind : (o : Operator) (a b : Reading) (h : Hole (chain o)) (s : ReaderState) → Stood (side o) b (behind o a h) s → Stood (chain o) (joint o a b) h s
 unfolding Stood settle outer
 stood-behind and a b h s e = e
 stood-behind or a b h s e = (b, oring a h, refl, e)
 
 -- the operator's word behind what was read
-joins-moves : (o : Operator) (a : Reading) (h : Hole (chain o)) (s : State) (w : Word) → Stood (chain o) a h s → roleOf w ≡ some (joins o)
+joins-moves : (o : Operator) (a : Reading) (h : Hole (chain o)) (s : ReaderState) (w : Word) → Stood (chain o) a h s → roleOf w ≡ some (joins o)
     → move s (word w) ≡ takes (begins (side o) (behind o a h))
 unfolding Stood begins move join again
 joins-moves and a h s w e q = rw e (ap (join a h) q)
@@ -102,8 +103,8 @@ module _ (o : Operator) {text old : List ℕ} {lv n : ℕ} {t : Lexeme} where
   sofar-first {new = new} {u = u} {m = m} ready s e = record { read = lift (s .upto u m e); over = s .over u m e; ready = read-ready ready (s .upto u m e) }
     where
       by-run : (x : Reading) (h : Hole (chain o))
-          → (s : State) × Stood (side o) x (alone o h) s × (run (begins (side o) (alone o h)) (from text t) ≡ run s (from text u))
-          → (s : State) × Stood (chain o) x h s × (run (begins (chain o) h) (from text t) ≡ run s (from text u))
+          → (s : ReaderState) × Stood (side o) x (alone o h) s × (run (begins (side o) (alone o h)) (from text t) ≡ run s (from text u))
+          → (s : ReaderState) × Stood (chain o) x h s × (run (begins (chain o) h) (from text t) ≡ run s (from text u))
       by-run x h (s, i, e) = (s, stood-alone o x h s i, ap (λ b. run b (from text t)) (begins-alone o h) ∙ e)
 
       lift : Read (side o) text lv t n old u m new → Read (chain o) text lv t n old u m new
@@ -145,7 +146,7 @@ module _ (o : Operator) {text old : List ℕ} {lv n : ℕ} {t : Lexeme} where
           → run (begins (chain o) h) (from text t) ≡ run (begins (side o) (behind o (g .read .reading) h)) (from text (nextAt text (u .end)))
       side-wanted h d = by-run (g .read .runs h d)
         where
-          by-run : (s : State) × Stood (chain o) (g .read .reading) h s × (run (begins (chain o) h) (from text t) ≡ run s (from text u))
+          by-run : (s : ReaderState) × Stood (chain o) (g .read .reading) h s × (run (begins (chain o) h) (from text t) ≡ run s (from text u))
               → run (begins (chain o) h) (from text t) ≡ run (begins (side o) (behind o (g .read .reading) h)) (from text (nextAt text (u .end)))
           by-run (s, i, e) = e ∙ run-takes (g .ready) (operator-word .token) s (joins-moves o (g .read .reading) h s (operator-word .bytes) i (operator-word .role))
 
@@ -182,9 +183,9 @@ module _ (o : Operator) {text old : List ℕ} {lv n : ℕ} {t : Lexeme} where
       }
         where
           by-run : (h : Hole (chain o)) → depth h ≡ lv
-              → (s : State) × Stood (side o) (r .reading) (behind o (g .read .reading) h) s
+              → (s : ReaderState) × Stood (side o) (r .reading) (behind o (g .read .reading) h) s
               × (run (begins (side o) (behind o (g .read .reading) h)) (from text (nextAt text (u .end))) ≡ run s (from text v))
-              → (s : State) × Stood (chain o) (joint o (g .read .reading) (r .reading)) h s × (run (begins (chain o) h) (from text t) ≡ run s (from text v))
+              → (s : ReaderState) × Stood (chain o) (joint o (g .read .reading) (r .reading)) h s × (run (begins (chain o) h) (from text t) ≡ run s (from text v))
           by-run h d (s, i, e) = (s, stood-behind o (g .read .reading) (r .reading) h s i, side-wanted h d ∙ e)
 
       -- the same, from the answers of the functions called

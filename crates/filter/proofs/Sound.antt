@@ -12,7 +12,7 @@ use Rattle.filter.specs.Words.{Role, joins, flag, name, Says, roleOf}
 use Rattle.filter.specs.Grammar.{Operand, a-word, a-quoted, Part, expression, conjunction, factor, Reads, flagged, tested, negated, grouped, single, anded, lone, ored}
 use Rattle.filter.specs.Levels.{openAt}
 use Rattle.filter.proofs.Walks.{no-ok}
-use Rattle.filter.specs.Reader.{Hole, whole, grouping, first, oring, head, anding, negating, State, want, operand, have, level, Move, takes, opens, stuck, breaks, Way, came, stopped, ok, settle, outer, again, leave, end, begin, fill, join, admit, follow, finish, conclude, answered, start, move, step, walk, read}
+use Rattle.filter.specs.Reader.{Hole, whole, grouping, first, oring, head, anding, negating, ReaderState, want, operand, have, level, Move, takes, opens, stuck, breaks, Way, came, stopped, ok, settle, outer, again, leave, end, begin, fill, join, admit, follow, finish, conclude, answered, start, move, step, walk, read}
 use Rattle.filter.proofs.Counts.{levels-open}
 use Rattle.filter.proofs.Agree.{levels-within}
 use Rattle.operand.specs.declared.Name.{Name}
@@ -37,7 +37,7 @@ abbrev Had : (p : Part) → List Token → Reading → Hole p → Type 0
 Had p ts r h = (us vs : List Token) × (ts ≡ us ++ vs) × Before p us h × Reads p vs r
 
 -- ts leads to a state
-abbrev pub At : List Token → State → Type 0
+abbrev pub At : List Token → ReaderState → Type 0
 At ts (want h) = Before factor ts h
 At ts (operand k h) = (us : List Token) × (w : Word) × (ts ≡ us ++ (word w ∷ [])) × Says w (name k) × Before factor us h
 At ts (have r h) = Had conjunction ts r h
@@ -82,7 +82,7 @@ end-at (r, h) (us, vs, e, at-whole, d) = rw e d
 end-at (r, h) (us, vs, e, at-group b, d) = tt
 
 -- what a state that ends the text reads is derived
-pub finish-at : (ts : List Token) (s : State) → At ts s → Ended ts (finish s)
+pub finish-at : (ts : List Token) (s : ReaderState) → At ts s → Ended ts (finish s)
 unfolding finish
 finish-at ts (want h) a = tt
 finish-at ts (operand k h) a = tt
@@ -119,7 +119,7 @@ join-at ts r h w a (some (name k)) q = tt
 join-at ts r h w a none q = tt
 
 -- what a token leads to, by its move
-pub move-at : (ts : List Token) (s : State) (t : Token) → At ts s → Moved ts t (move s t)
+pub move-at : (ts : List Token) (s : ReaderState) (t : Token) → At ts s → Moved ts t (move s t)
 unfolding move
 move-at ts (want h) open′ a = at-head (at-first (at-group a))
 move-at ts (want h) bang a = at-not a
@@ -139,12 +139,12 @@ move-at ts (have r h) (quoted v) a = tt
 
 module _ (L : ℕ) where
   -- the tokens of a walk lead to the state that it comes to: from a state on, and from the start
-  pub walk-moves : (ts : List Token) (s : State) (us : List Token) → At ts s → Came (ts ++ us) (walk L s us)
+  pub walk-moves : (ts : List Token) (s : ReaderState) (us : List Token) → At ts s → Came (ts ++ us) (walk L s us)
   unfolding walk follow step admit
   walk-moves ts s [] a = rw (append-nil ts) a
   walk-moves ts s (t ∷ us) a = by-move (move s t) (move-at ts s t a) (ltb (level s) L) (λ vs x. walk-moves vs x us)
     where
-      by-move : (m : Move) → Moved ts t m → (b : Bool) → ((vs : List Token) (x : State) → At vs x → Came (vs ++ us) (walk L x us))
+      by-move : (m : Move) → Moved ts t m → (b : Bool) → ((vs : List Token) (x : ReaderState) → At vs x → Came (vs ++ us) (walk L x us))
           → Came (ts ++ (t ∷ us)) (follow (admit b m) (λ x. walk L x us) (t ∷ us))
       by-move (takes x) w b f = rw (append-assoc ts (t ∷ []) us) at (f (ts ++ (t ∷ [])) x w)
       by-move (opens x) w true f = rw (append-assoc ts (t ∷ []) us) at (f (ts ++ (t ∷ [])) x w)
@@ -152,15 +152,15 @@ module _ (L : ℕ) where
       by-move stuck w b f = tt
       by-move breaks w b f = tt
 
-  pub walk-at : (ts : List Token) (s : State) → walk L start ts ≡ came s → At ts s
+  pub walk-at : (ts : List Token) (s : ReaderState) → walk L start ts ≡ came s → At ts s
   walk-at ts s e = rw e at (walk-moves [] start ts at-start)
 
   -- where a walk comes to its end, what is read is derived
-  pub ended : (ts : List Token) (s : State) {r : Reading} → walk L start ts ≡ came s → finish s ≡ some r → Reads expression ts r
+  pub ended : (ts : List Token) (s : ReaderState) {r : Reading} → walk L start ts ≡ came s → finish s ≡ some r → Reads expression ts r
   ended ts s e f = rw f at (finish-at ts s (walk-at ts s e))
 
   -- what is read has been walked
-  ok-walks : (ts : List Token) (r : Reading) → read L ts ≡ ok r → (s : State) × (walk L start ts ≡ came s) × (finish s ≡ some r)
+  ok-walks : (ts : List Token) (r : Reading) → read L ts ≡ ok r → (s : ReaderState) × (walk L start ts ≡ came s) × (finish s ≡ some r)
   unfolding read answered conclude
   ok-walks ts r e = by-way (walk L start ts) refl e
     where
@@ -168,7 +168,7 @@ module _ (L : ℕ) where
       by-end none e = no-ok (conclude none) e refl
       by-end (some r′) e = cc
 
-      by-way : (w : Way) → walk L start ts ≡ w → answered w ≡ ok r → (s : State) × (walk L start ts ≡ came s) × (finish s ≡ some r)
+      by-way : (w : Way) → walk L start ts ≡ w → answered w ≡ ok r → (s : ReaderState) × (walk L start ts ≡ came s) × (finish s ≡ some r)
       by-way (came s) p q = (s, p, by-end (finish s) q)
       by-way (stopped y us) p q = no-ok (answered (stopped y us)) q refl
 
@@ -176,5 +176,5 @@ module _ (L : ℕ) where
   pub sound : (ts : List Token) {r : Reading} → read L ts ≡ ok r → (d : Reads expression ts r) × ((n : ℕ) → openAt d n ≤ L)
   sound ts {r} e = by-walk (ok-walks ts r e)
     where
-      by-walk : (s : State) × (walk L start ts ≡ came s) × (finish s ≡ some r) → (d : Reads expression ts r) × ((n : ℕ) → openAt d n ≤ L)
+      by-walk : (s : ReaderState) × (walk L start ts ≡ came s) × (finish s ≡ some r) → (d : Reads expression ts r) × ((n : ℕ) → openAt d n ≤ L)
       by-walk (s, p, q) = (ended ts s p q, levels-open _ L .0 (levels-within L ts s p (ended ts s p q)))

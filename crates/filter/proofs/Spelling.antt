@@ -13,7 +13,7 @@ use Rattle.token.specs.Texts.{textLimit, Blank, space, tab, lineFeed, Allowed, 
 use Rattle.token.specs.Tokens.{Token, open′, close, bang, word, quoted, Mark, opening, closing, banging, Letter, Stops, before, Placed, placed, Lexes, nothing, blanks, marks, words, quotes}
 use Rattle.filter.specs.Grammar.{expression, Reads}
 use Rattle.filter.specs.Levels.{levelLimit, openAt}
-use Rattle.filter.specs.Answers.{bare, DerivedWithin, compiled, Answers, compiles}
+use Rattle.filter.specs.Answers.{bare, DerivedWithin, compiled, TextAnswers, compiles}
 use Rattle.filter.proofs.Counts.{levels, levels-open}
 
 -- a printed byte that is no quote
@@ -136,7 +136,7 @@ spell-allowed (every-more {a = t} p ps) = every-append (token-allowed t p) (ever
 
 -- tokens that can be written and are derived: the text that spells them compiles, where size, levels and weight are as allowed
 pub spelled-compiles : {ts : List Token} {r : Reading} (d : Reads expression ts r) → levels d ≤ levelLimit → Every Proper ts
-    → length (spell ts) ≤ textLimit → weight r ≤ weightLimit → Answers (spell ts) (recordSize * weightLimit) (compiled r)
+    → length (spell ts) ≤ textLimit → weight r ≤ weightLimit → TextAnswers (spell ts) (recordSize * weightLimit) (compiled r)
 spelled-compiles {ts} {r} d l p s w = compiles (record { short = s; allowed = spell-allowed p }) (by-tokens (bare-positioned 0 ts)) w (omega arith)
   where
     with-tokens : (e : Reads expression (bare (positioned 0 ts)) r) × ((n : ℕ) → openAt e n ≤ levelLimit) → DerivedWithin (spell ts) r

@@ -10,13 +10,13 @@ use Rattle.token.specs.Texts.{textLimit}
 use Rattle.filter.specs.Levels.{levelLimit}
 use Rattle.token.specs.Tokens.{Token, Placed, placed}
 use Rattle.token.specs.Next.{Closed, nextAt, tokenIn}
-use Rattle.token.specs.declared.Kind.the-variants.{End}
+use Rattle.token.specs.declared.Sort.the-variants.{End}
 use Rattle.token.specs.declared.Lexeme.{Lexeme}
 use Rattle.token.proofs.Nexts.{Took, next-end, next-token}
 use Rattle.token.proofs.Again.{next-again, left-again, closed-again, next-after}
 use Rattle.filter.specs.Grammar.{Part}
 use Rattle.filter.specs.Answers.{bare}
-use Rattle.filter.specs.Reader.{Hole, depth, State, level, Why, bad, broken, deep, takes, opens, stuck, breaks, refused, conclude, finish, answered, admit, move, step, stop, walk}
+use Rattle.filter.specs.Reader.{Hole, depth, ReaderState, level, Why, bad, broken, deep, takes, opens, stuck, breaks, refused, conclude, finish, answered, admit, move, step, stop, walk}
 use Rattle.filter.specs.Answering.{refusalOf, startOf}
 use Rattle.filter.specs.Parsing.{from, run, begins, Ready, Passed, Stopped}
 use Rattle.filter.proofs.Walks.{walk-takes, walk-go, walk-stop, step-opens}
@@ -26,14 +26,14 @@ pub ready-first : {text : List ℕ} {at n : ℕ} → length text ≤ textLimit �
 ready-first s c h = record { short = s; closed = closed-again c; here = next-again c; few = omega (arith, next-after c) }
 
 -- nothing is left: the state decides
-pub run-none : (x : State) → run x [] ≡ conclude (finish x)
+pub run-none : (x : ReaderState) → run x [] ≡ conclude (finish x)
 unfolding run bare walk answered
 run-none x = refl
 
 module _ {text : List ℕ} {t : Lexeme} {n : ℕ} (ready : Ready text t n) where
   -- where the text ends, no token is left
-  pub end-none : t .kind ≡ End → (from text t ≡ []) × (t .start ≡ length text)
-  end-none k = let x = next-end (ready .closed) (ap (λ (l : Lexeme). l .kind) (ready .here) ∙ k) in (x .0, sym (ap (λ (l : Lexeme). l .start) (ready .here)) ∙ x .1)
+  pub end-none : t .sort ≡ End → (from text t ≡ []) × (t .start ≡ length text)
+  end-none k = let x = next-end (ready .closed) (ap (λ (l : Lexeme). l .sort) (ready .here) ∙ k) in (x .0, sym (ap (λ (l : Lexeme). l .start) (ready .here)) ∙ x .1)
 
   module _ {a : Token} (token : tokenIn text t ≡ some a) where
     took : Took text (t .start) t a
@@ -59,14 +59,14 @@ module _ {text : List ℕ} {t : Lexeme} {n : ℕ} (ready : Ready text t n) where
     pub fewer-next : length (from text (nextAt text (t .end))) < length (from text t)
     fewer-next = omega (arith, ap length from-next)
 
-    module _ (x : State) where
+    module _ (x : ReaderState) where
       -- a token that is taken
-      pub run-takes : {y : State} → move x a ≡ takes y → run x (from text t) ≡ run y (from text (nextAt text (t .end)))
+      pub run-takes : {y : ReaderState} → move x a ≡ takes y → run x (from text t) ≡ run y (from text (nextAt text (t .end)))
       unfolding run bare
       run-takes {y} e = rw from-next (ap answered (walk-takes levelLimit x y a (bare (from text (nextAt text (t .end)))) e))
 
       -- one that opens a level, where there is room
-      pub run-opens : {y : State} → move x a ≡ opens y → level x < levelLimit → run x (from text t) ≡ run y (from text (nextAt text (t .end)))
+      pub run-opens : {y : ReaderState} → move x a ≡ opens y → level x < levelLimit → run x (from text t) ≡ run y (from text (nextAt text (t .end)))
       unfolding run bare
       run-opens {y} e l = rw from-next (ap answered (walk-go levelLimit x y a (bare (from text (nextAt text (t .end)))) (step-opens levelLimit x y a e l)))
 
@@ -86,7 +86,7 @@ module _ {text : List ℕ} {t : Lexeme} {n : ℕ} (ready : Ready text t n) where
       run-breaks e = run-stops (ap (admit _) e)
 
       -- one that opens a level too many
-      pub run-deep : {y : State} → move x a ≡ opens y → levelLimit ≤ level x → run x (from text t) ≡ refused deep (bare (from text t))
+      pub run-deep : {y : ReaderState} → move x a ≡ opens y → levelLimit ≤ level x → run x (from text t) ≡ refused deep (bare (from text t))
       unfolding step admit
       run-deep {y} e l = run-stops (ap (admit _) e ∙ ap (λ b. admit b (opens y)) (le-ltb (level x) levelLimit l))
 
@@ -96,7 +96,7 @@ module _ {text : List ℕ} {t : Lexeme} {n : ℕ} (ready : Ready text t n) where
     start-token = rw from-next
 
   -- the end's place
-  pub start-end : t .kind ≡ End → startOf (length text) (from text t) ≡ t .start
+  pub start-end : t .sort ≡ End → startOf (length text) (from text t) ≡ t .start
   unfolding startOf
   start-end k = rw (end-none k .0) (sym (end-none k .1))
 

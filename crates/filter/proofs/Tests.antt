@@ -4,49 +4,47 @@ use native.Mathlib.Omega.{arith}
 use mathlib.Core.Path.{_≡_, refl, sym, ap, _∙_}
 use mathlib.Core.Bool.{true, false}
 use mathlib.Core.Option.{Option, some, none}
-use mathlib.Core.List.{List, [], _∷_, map, append-nil}
-use lib.ListN.{length}
+use mathlib.Core.List.{List, [], _∷_, append-nil}
+use lib.ListN.{length, length-map}
 use lib.Seq.{sets}
 use Rattle.octets.specs.Writes.{Written}
 use Rattle.program.specs.declared.Fields.{Fields}
-use Rattle.program.specs.Readings.{weight, Test, itemCount, test}
-use Rattle.program.specs.Layout.{recordSize, laid, fieldsOf, encodeAll}
-use Rattle.program.specs.Compiling.{programOf, headOf, itemsOf, records}
+use Rattle.program.specs.Readings.{weight, Test, test}
+use Rattle.program.specs.Layout.{recordSize, laid, headFields, fieldsOf, encodeAll}
+use Rattle.program.specs.Compiling.{programOf, headOf, itemsOf, followingOf, records}
 use Rattle.token.specs.Texts.{textLimit}
 use Rattle.token.specs.Tokens.{Token, word, placed}
 use Rattle.token.specs.Next.{nextAt, bytesIn, tokenIn, Closed}
-use Rattle.token.specs.declared.Kind.{Kind}
-use Rattle.token.specs.declared.Kind.the-variants.{End, Open, Close, Bang, Quoted, Unclosed, Word}
+use Rattle.token.specs.declared.Sort.{Sort}
+use Rattle.token.specs.declared.Sort.the-variants.{End, Open, Close, Bang, Quoted, Unclosed, Word}
 use Rattle.token.specs.declared.Lexeme.{Lexeme}
-use Rattle.token.proofs.Nexts.{kind-token}
+use Rattle.token.proofs.Nexts.{sort-token}
 use Rattle.filter.specs.Words.{Role, joins, flag, name, roleOf}
 use Rattle.filter.specs.Grammar.{factor}
 use Rattle.filter.specs.Answers.{bare}
-use Rattle.filter.specs.Reader.{Hole, State, want, bad, stuck, refused, settle, conclude, finish, move, operand, Why, broken, begin, fill}
+use Rattle.filter.specs.Reader.{Hole, ReaderState, want, bad, stuck, refused, settle, conclude, finish, move, operand, Why, broken, begin, fill}
 use Rattle.filter.specs.Answering.{refusalOf}
-use Rattle.filter.specs.Parsing.{roleIn, from, run, begins, Stood, Over, Ready, Passed, operandKind, opensLevel, TestSays}
+use Rattle.filter.specs.Parsing.{roleIn, from, run, begins, Stood, Over, Ready, Passed, operandSort, opensLevel, TestSays}
 use Rattle.filter.specs.declared.Parsed.the-variants.{Upto, Refused}
 use Rattle.filter.proofs.Steps.{run-none, end-none, token-within, ready-next, next-behind, from-next, fewer-next, run-takes, run-stuck, stopped-here, passed-next, passed-both, run-breaks}
 use Rattle.octets.proofs.Choices.{never}
 use Rattle.octets.proofs.Writes.{both}
-use Rattle.aspath.specs.declared.Item.{Item}
 use Rattle.program.specs.Records.{item}
 use Rattle.program.proofs.MachineLaws.{items-counted}
 use Rattle.operand.specs.declared.Name.{Name}
 use Rattle.operand.specs.declared.Meant.the-variants.{Head, Broken}
-use Rattle.operand.specs.Patterns.{itemsAtFront}
-use Rattle.operand.specs.Tests.{meaning, meantBy}
+use Rattle.operand.specs.Tests.{meaning, operandMeaning, followingMeant, meantOf}
 use Rattle.operand.proofs.Meanings.{meaning-sound}
 use Rattle.filter.specs.declared.Refusal.the-variants as refusals
 use Rattle.filter.proofs.ReadyTokens.{ready-closed, token-sized, start-here, worded, noTest}
 use Rattle.filter.proofs.Parts.{says-read, says-stopped}
-use Rattle.filter.proofs.TestOperands.{Offered, offered, Headed, headed, none-meant, Itemed, means-items}
+use Rattle.filter.proofs.TestOperands.{Offered, offered, Headed, headed, none-meant, meaning-answered, means-few}
 
 -- ---- a token that nothing takes
 
 module _ {text : List ℕ} {t : Lexeme} {n : ℕ} (ready : Ready text t n) where
   -- at the end, in a state that wants more
-  pub run-end : (x : State) → t .kind ≡ End → finish x ≡ none → run x (from text t) ≡ refused bad (bare (from text t))
+  pub run-end : (x : ReaderState) → t .sort ≡ End → finish x ≡ none → run x (from text t) ≡ refused bad (bare (from text t))
   unfolding bare conclude
   run-end x k f = rw (end-none ready k .0) (run-none x ∙ ap conclude f)
 
@@ -60,35 +58,35 @@ begin-stuck h (some (name k)) e = never e
 
 module _ {text : List ℕ} {t : Lexeme} {n : ℕ} (ready : Ready text t n) where
   -- where a factor is wanted, a lexeme that opens no level and is no test
-  stuck-factor : opensLevel (t .kind) ≡ false → noTest (roleIn (tokenIn text t)) ≡ true → (h : Hole factor) → run (want h) (from text t) ≡ refused bad (bare (from text t))
+  stuck-factor : opensLevel (t .sort) ≡ false → noTest (roleIn (tokenIn text t)) ≡ true → (h : Hole factor) → run (want h) (from text t) ≡ refused bad (bare (from text t))
   unfolding move finish
-  stuck-factor o r h = go (t .kind) refl o
+  stuck-factor o r h = go (t .sort) refl o
     where
-      go : (k : Kind) → t .kind ≡ k → opensLevel k ≡ false → run (want h) (from text t) ≡ refused bad (bare (from text t))
+      go : (k : Sort) → t .sort ≡ k → opensLevel k ≡ false → run (want h) (from text t) ≡ refused bad (bare (from text t))
       go End k o = run-end ready (want h) k refl
       go Open k o = never (sym o)
-      go Close k o = run-stuck ready (kind-token text t k) (want h) refl
+      go Close k o = run-stuck ready (sort-token text t k) (want h) refl
       go Bang k o = never (sym o)
-      go Word k o = run-stuck ready (kind-token text t k) (want h) (begin-stuck h (roleOf (bytesIn text t)) (rw (kind-token text t k) at r))
-      go Quoted k o = run-stuck ready (kind-token text t k) (want h) refl
+      go Word k o = run-stuck ready (sort-token text t k) (want h) (begin-stuck h (roleOf (bytesIn text t)) (rw (sort-token text t k) at r))
+      go Quoted k o = run-stuck ready (sort-token text t k) (want h) refl
       go Unclosed k o = absurd (ready-closed ready k)
 
   -- where an operand is wanted, a lexeme that is none
-  stuck-operand : operandKind (t .kind) ≡ false → (m : Name) (h : Hole factor) → run (operand m h) (from text t) ≡ refused bad (bare (from text t))
+  stuck-operand : operandSort (t .sort) ≡ false → (m : Name) (h : Hole factor) → run (operand m h) (from text t) ≡ refused bad (bare (from text t))
   unfolding move finish
-  stuck-operand o m h = go (t .kind) refl o
+  stuck-operand o m h = go (t .sort) refl o
     where
-      go : (k : Kind) → t .kind ≡ k → operandKind k ≡ false → run (operand m h) (from text t) ≡ refused bad (bare (from text t))
+      go : (k : Sort) → t .sort ≡ k → operandSort k ≡ false → run (operand m h) (from text t) ≡ refused bad (bare (from text t))
       go End k o = run-end ready (operand m h) k refl
-      go Open k o = run-stuck ready (kind-token text t k) (operand m h) refl
-      go Close k o = run-stuck ready (kind-token text t k) (operand m h) refl
-      go Bang k o = run-stuck ready (kind-token text t k) (operand m h) refl
+      go Open k o = run-stuck ready (sort-token text t k) (operand m h) refl
+      go Close k o = run-stuck ready (sort-token text t k) (operand m h) refl
+      go Bang k o = run-stuck ready (sort-token text t k) (operand m h) refl
       go Word k o = never (sym o)
       go Quoted k o = never (sym o)
       go Unclosed k o = absurd (ready-closed ready k)
 
   -- a lexeme that is no test is refused at its place
-  pub no-test : {old new : List ℕ} → opensLevel (t .kind) ≡ false → noTest (roleIn (tokenIn text t)) ≡ true → TestSays text t n old (Refused refusals.Token (t .start)) new
+  pub no-test : {old new : List ℕ} → opensLevel (t .sort) ≡ false → noTest (roleIn (tokenIn text t)) ≡ true → TestSays text t n old (Refused refusals.Token (t .start)) new
   unfolding begins
   no-test o r = record { says = λ level. says-stopped refl (stopped-here factor bad (start-here ready) (λ h d. stuck-factor o r h)) }
 
@@ -122,16 +120,17 @@ test-says {x = x} k c w = record {
 }
 
 -- a test whose record stands alone, as an answer
-pub alone-says : {text : List ℕ} {t u : Lexeme} {n p : ℕ} {old new : List ℕ} {x : Test} {f : Fields} → Taken text t u x → itemsOf x ≡ [] → f ≡ fieldsOf (headOf x)
+pub alone-says : {text : List ℕ} {t u : Lexeme} {n p : ℕ} {old new : List ℕ} {x : Test} {f : Fields} → Taken text t u x → itemsOf x ≡ [] → f ≡ headFields (headOf x)
     → Written old (recordSize * n) (laid f) new p → TestSays text t n old (Upto u (n + 1)) new
-unfolding weight records encodeAll
-alone-says {x = x} k i e w = test-says k (omega (arith, items-counted x, ap length i)) (w .laid ∙ rw (e, i, append-nil (laid (fieldsOf (headOf x)))) refl)
+unfolding weight records fieldsOf encodeAll
+alone-says {x = x} k i e w = test-says k (omega (arith, items-counted x, ap length i)) (w .laid ∙ rw (e, i, append-nil (laid (headFields (headOf x)))) refl)
 
--- a test whose items stand behind its record, as an answer
-listed-says : {text : List ℕ} {t u : Lexeme} {n p z : ℕ} {old mid new : List ℕ} {x : Test} {f : Fields} {is : List Item} → Taken text t u x → is ≡ itemsOf x → f .count ≡ itemCount x
-    → f ≡ fieldsOf (headOf x) → Written old (recordSize * n) (laid f) mid p → Written mid p (encodeAll (map item is)) new z → TestSays text t n old (Upto u (n + 1 + f .count)) new
-unfolding weight records encodeAll
-listed-says {f = f} {is = is} k i c e w y = test-says k (omega (arith, c)) (both (laid f) (encodeAll (map item is)) w y .laid ∙ rw (e, i) refl)
+-- a test whose other records stand behind its head, as an answer
+followed-says : {text : List ℕ} {t u : Lexeme} {n m p z : ℕ} {old mid new : List ℕ} {x : Test} {f : Fields} → Taken text t u x → m ≡ length (followingOf x) → f ≡ headFields (headOf x)
+    → Written old (recordSize * n) (laid f) mid p → Written mid p (encodeAll (followingOf x)) new z → TestSays text t n old (Upto u (n + 1 + m)) new
+unfolding weight records fieldsOf encodeAll
+followed-says {x = x} {f = f} k c e w y =
+    test-says k (omega (arith, c, length-map (itemsOf x) item, items-counted x)) (both (laid f) (encodeAll (followingOf x)) w y .laid ∙ rw e refl)
 
 -- ---- the tests
 
@@ -185,10 +184,10 @@ module _ {text : List ℕ} {t : Lexeme} {n : ℕ} (ready : Ready text t n) where
     }
 
     -- no operand follows
-    pub no-operand : {old new : List ℕ} → operandKind (o .kind) ≡ false → TestSays text t n old (Refused refusals.Token (o .start)) new
+    pub no-operand : {old new : List ℕ} → operandSort (o .sort) ≡ false → TestSays text t n old (Refused refusals.Token (o .start)) new
     no-operand q = behind bad (stuck-operand ready-operand q k)
 
-    module _ {v : List ℕ} (q : operandKind (o .kind) ≡ true) (b : v ≡ bytesIn text o) where
+    module _ {v : List ℕ} (q : operandSort (o .sort) ≡ true) (b : v ≡ bytesIn text o) where
       -- the token behind the name is an operand
       offer : Offered text o
       offer = offered text o q
@@ -198,22 +197,22 @@ module _ {text : List ℕ} {t : Lexeme} {n : ℕ} (ready : Ready text t n) where
       operand-short = rw b (omega (arith, token-sized ready-operand (offer .is), token-within ready-operand (offer .is), ready .short))
 
       -- its bytes decide
-      decides : (h : Hole factor) → move (operand k h) (offer .token) ≡ fill h (meaning k v)
-      decides h = offer .moves k h ∙ ap (λ (w : List ℕ). fill h (meaning k w)) (sym b)
+      decides : (h : Hole factor) → move (operand k h) (offer .token) ≡ fill h (operandMeaning k v)
+      decides h = offer .moves k h ∙ ap (λ (w : List ℕ). fill h (meaning k w)) (sym b) ∙ ap (fill h) (sym (meaning-answered k v operand-short))
 
       -- it breaks its test's rule
-      pub broken-operand : {old new : List ℕ} → Broken ≡ meantBy k v → TestSays text t n old (Refused refusals.Operand (o .start)) new
+      pub broken-operand : {old new : List ℕ} → Broken ≡ meantOf (operandMeaning k v) → TestSays text t n old (Refused refusals.Operand (o .start)) new
       unfolding fill
-      broken-operand m = behind broken (λ h. run-breaks ready-operand (offer .is) (operand k h) (decides h ∙ ap (fill h) (none-meant k v operand-short m)))
+      broken-operand m = behind broken (λ h. run-breaks ready-operand (offer .is) (operand k h) (decides h ∙ ap (fill h) (none-meant k v m)))
 
-      module _ {f : Fields} (m : Head f ≡ meantBy k v) where
+      module _ {f : Fields} {more : ℕ} (m : Head f more ≡ meantOf (operandMeaning k v)) where
         -- the test that is meant
-        head-test : Headed k v f
-        head-test = headed k v operand-short m
+        head-test : Headed k v f more
+        head-test = headed k v m
 
-        -- and its items
-        items : Itemed v (head-test .test)
-        items = means-items (meaning-sound k v (head-test .means))
+        -- no more records follow its head than the operand has bytes
+        few : length (followingOf (head-test .test)) ≤ length v
+        few = means-few (meaning-sound k v (sym (meaning-answered k v operand-short) ∙ head-test .means))
 
         -- the reader takes the name and the operand
         named-taken : {u : Lexeme} → u ≡ nextAt text (o .end) → Taken text t u (head-test .test)
@@ -221,22 +220,27 @@ module _ {text : List ℕ} {t : Lexeme} {n : ℕ} (ready : Ready text t n) where
         named-taken d =
             let name-token = worded (tokenIn text t) r .token in
             let next = ready-next ready-operand (offer .is) in
+            let x = head-test .test in
             rw d (record {
               runs = λ h. wants h ∙ run-takes ready-operand (offer .is) (operand k h) (decides h ∙ ap (fill h) (head-test .means));
               closed = next .closed;
               here = next .here;
               passed = passed-both (rw e (passed-next ready name-token)) (passed-next ready-operand (offer .is));
               fewer = omega (arith, fewer-next ready-operand (offer .is), fewer);
-              light = omega (arith, token-within ready name-token .0, behind-name, token-sized ready-operand (offer .is), next-behind ready-operand (offer .is), items .few, ap length b);
+              light = omega (
+                arith,
+                token-within ready name-token .0,
+                behind-name,
+                token-sized ready-operand (offer .is),
+                next-behind ready-operand (offer .is),
+                few,
+                items-counted x,
+                length-map (itemsOf x) item,
+                ap length b,
+              );
             })
 
-        -- a test whose record stands alone
-        pub named-alone : {u : Lexeme} {old new : List ℕ} {p : ℕ} → u ≡ nextAt text (o .end) → (f .kind ≡ 3 → ⊥) → Written old (recordSize * n) (laid f) new p → TestSays text t n old (Upto u (n + 1)) new
-        named-alone d g w = alone-says (named-taken d) (items .alone (λ e. g (ap (λ (x : Fields). x .kind) (head-test .head) ∙ e))) (head-test .head) w
-
-        -- a path, its items behind its record
-        pub named-path : {u : Lexeme} {old mid new : List ℕ} {p z : ℕ} → u ≡ nextAt text (o .end) → f .kind ≡ 3 → Written old (recordSize * n) (laid f) mid p
-            → Written mid p (encodeAll (map item (itemsAtFront v))) new z → TestSays text t n old (Upto u (n + 1 + f .count)) new
-        named-path d g w y =
-            let i = items .listed (sym (ap (λ (x : Fields). x .kind) (head-test .head)) ∙ g) in
-            listed-says (named-taken d) (i .0) (ap (λ (x : Fields). x .count) (head-test .head) ∙ i .1) (head-test .head) w y
+        -- its head and the records that follow
+        pub named-says : {u : Lexeme} {old mid new : List ℕ} {p z : ℕ} → u ≡ nextAt text (o .end) → Written old (recordSize * n) (laid f) mid p
+            → Written mid p (encodeAll (followingMeant (operandMeaning k v))) new z → TestSays text t n old (Upto u (n + 1 + more)) new
+        named-says d w y = followed-says (named-taken d) (head-test .following) (head-test .head) w (rw (head-test .means) at y)

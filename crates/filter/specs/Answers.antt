@@ -96,27 +96,29 @@ pub record DerivedWithin (text : List ℕ) (r : Reading) : Type 0 where
   pub within : (n : ℕ) → openAt (derived .reads) n ≤ levelLimit
 
 -- a text compiles to the program of a reading, or is refused
-pub data Outcome : Type 0 where
-  compiled : Reading → Outcome
+pub data TextOutcome : Type 0 where
+  compiled : Reading → TextOutcome
   -- why, and the place
-  refused : Refusal → ℕ → Outcome
+  refused : Refusal → ℕ → TextOutcome
 
 -- the answer for a text and a program buffer of so many bytes
-pub data Answers (text : List ℕ) (room : ℕ) : Outcome → Type 0 where
+pub data TextAnswers (text : List ℕ) (room : ℕ) : TextOutcome → Type 0 where
   -- 1: text over 4,096 bytes
-  too-long : textLimit < length text → Answers text room (refused Length 0)
+  too-long : textLimit < length text → TextAnswers text room (refused Length 0)
   -- 2: a forbidden byte, at the first one's place
-  forbidden : {p : ℕ} → length text ≤ textLimit → Forbidden text p → Answers text room (refused Byte p)
+  forbidden : {p : ℕ} → length text ≤ textLimit → Forbidden text p → TextAnswers text room (refused Byte p)
   -- 3: quote not closed, at its opening
-  unclosed : {p : ℕ} → Fine text → Unclosed text p → Answers text room (refused Quote p)
+  unclosed : {p : ℕ} → Fine text → Unclosed text p → TextAnswers text room (refused Quote p)
   -- 4, 5 and 6: for the first token that has one
   bad-first : {ts : List Token} {t : Token} {why : Refusal} {p : ℕ} → Fine text → Reaches text ts t p → Has levelLimit ts t why
-      → Answers text room (refused why p)
+      → TextAnswers text room (refused why p)
   -- 4: the end of the text
   bad-end : (ts : List Placed) → Fine text → Lexes 0 text ts → Leads levelLimit (bare ts) → ((r : Reading) → Reads expression (bare ts) r → ⊥)
-      → Answers text room (refused BadToken (length text))
+      → TextAnswers text room (refused BadToken (length text))
   -- 7: weight over 512
-  too-heavy : {r : Reading} → Fine text → DerivedWithin text r → weightLimit < weight r → Answers text room (refused Weight 0)
+  too-heavy : {r : Reading} → Fine text → DerivedWithin text r → weightLimit < weight r → TextAnswers text room (refused Weight 0)
   -- 8: program buffer under 16 x weight bytes
-  no-room : {r : Reading} → Fine text → DerivedWithin text r → weight r ≤ weightLimit → room < recordSize * weight r → Answers text room (refused Room 0)
-  compiles : {r : Reading} → Fine text → DerivedWithin text r → weight r ≤ weightLimit → recordSize * weight r ≤ room → Answers text room (compiled r)
+  no-room : {r : Reading} → Fine text → DerivedWithin text r → weight r ≤ weightLimit → room < recordSize * weight r
+      → TextAnswers text room (refused Room 0)
+  compiles : {r : Reading} → Fine text → DerivedWithin text r → weight r ≤ weightLimit → recordSize * weight r ≤ room
+      → TextAnswers text room (compiled r)

@@ -7,7 +7,7 @@ use Rattle.program.specs.Layout.{recordSize}
 use Rattle.program.specs.Compiling.{programOf}
 use Rattle.filter.specs.declared.Compiled.{Compiled}
 use Rattle.filter.specs.declared.Compiled.the-variants.{Program, Refused}
-use Rattle.filter.specs.Answers.{numberOf, Outcome, compiled, refused}
+use Rattle.filter.specs.Answers.{numberOf, TextOutcome, compiled, refused}
 use Rattle.filter.specs.Answering.{answer}
 
 -- what compiling answers, and the program buffer afterwards: 0 and the program's bytes, or a refusal's number and its place
@@ -30,7 +30,7 @@ compilingOf (Program bytes) buffer = record { number = 0; value = bytes; buffer 
 compilingOf (Refused why place) buffer = record { number = numberOf why; value = place; buffer = buffer }
 
 -- what an answer in words says, with what it does to the buffer: the program's records over its start, or nothing
-abbrev pub compiling : Outcome → List ℕ → Compiling
+abbrev pub compiling : TextOutcome → List ℕ → Compiling
 compiling (compiled r) old = record { number = 0; value = recordSize * weight r; buffer = programOf r ++ drop (length (programOf r)) old }
 compiling (refused why place) old = record { number = numberOf why; value = place; buffer = old }
 

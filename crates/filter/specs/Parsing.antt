@@ -13,15 +13,16 @@ use Rattle.token.specs.Texts.{textLimit}
 use Rattle.filter.specs.Levels.{levelLimit}
 use Rattle.token.specs.Tokens.{Token, open′, close, bang, word, quoted, Placed}
 use Rattle.token.specs.Next.{left, Closed, nextAt}
-use Rattle.token.specs.declared.Kind.{Kind}
-use Rattle.token.specs.declared.Kind.the-variants.{End, Open, Close, Bang, Word, Quoted, Unclosed}
+use Rattle.token.specs.declared.Sort.{Sort}
+use Rattle.token.specs.declared.Sort.the-variants.{End, Open, Close, Bang, Word, Quoted, Unclosed}
 use Rattle.token.specs.declared.Lexeme.{Lexeme}
 use Rattle.names.specs.Tables.{Row}
 use Rattle.filter.specs.Words.{joins, flag, name, vocabulary, roleOf}
 use Rattle.filter.specs.Words as words
 use Rattle.filter.specs.Grammar.{Part, expression, conjunction, factor}
 use Rattle.filter.specs.Answers.{bare}
-use Rattle.filter.specs.Reader.{Hole, first, head, depth, State, want, have, Why, Answer, ok, refused, settle, outer, answered, walk, read}
+use Rattle.filter.specs.Reader.{Hole, first, head, depth, ReaderState, want, have, Why, ReaderAnswer, ok, refused}
+use Rattle.filter.specs.Reader.{settle, outer, answered, walk, read}
 use Rattle.filter.specs.Answering.{refusalOf, startOf, placeOf}
 use Rattle.filter.specs.declared.Role.{Role}
 use Rattle.filter.specs.declared.Role.the-variants.{And, Or, Loops, Bogons, Named, Unknown}
@@ -43,17 +44,17 @@ abbrev pub operandRows : List (Row words.Role)
 operandRows = drop 4 vocabulary
 
 -- a word or a quoted token
-abbrev pub operandKind : Kind → Bool
-operandKind End = false
-operandKind Open = false
-operandKind Close = false
-operandKind Bang = false
-operandKind Word = true
-operandKind Quoted = true
-operandKind Unclosed = false
+abbrev pub operandSort : Sort → Bool
+operandSort End = false
+operandSort Open = false
+operandSort Close = false
+operandSort Bang = false
+operandSort Word = true
+operandSort Quoted = true
+operandSort Unclosed = false
 
 -- `(` or `!`
-abbrev pub opensLevel : Kind → Bool
+abbrev pub opensLevel : Sort → Bool
 opensLevel End = false
 opensLevel Open = true
 opensLevel Close = false
@@ -84,17 +85,17 @@ abbrev pub from : List ℕ → Lexeme → List Placed
 from text t = left text (t .start)
 
 -- the answer for tokens from a state on
-unfoldable pub run : State → List Placed → Answer
+unfoldable pub run : ReaderState → List Placed → ReaderAnswer
 run s ps = answered (walk levelLimit s (bare ps))
 
 -- where the reader begins to read a part in h
-unfoldable pub begins : (p : Part) → Hole p → State
+unfoldable pub begins : (p : Part) → Hole p → ReaderState
 begins expression h = want (head (first h))
 begins conjunction h = want (head h)
 begins factor h = want h
 
 -- where it stands when the part has been read as r
-unfoldable pub Stood : (p : Part) → Reading → Hole p → State → Type 0
+unfoldable pub Stood : (p : Part) → Reading → Hole p → ReaderState → Type 0
 Stood expression r h s = (c : Reading) × (k : Hole conjunction) × (outer c k ≡ (r, h)) × (s ≡ have c k)
 Stood conjunction r h s = s ≡ have r h
 Stood factor r h s = s ≡ settle r h
@@ -120,7 +121,7 @@ pub record Passed (text : List ℕ) (t u : Lexeme) : Type 0 where
 -- from t up to u a part was read, and its records were laid over the buffer from record n up to m, as far as it reaches
 pub record Read (p : Part) (text : List ℕ) (level : ℕ) (t : Lexeme) (n : ℕ) (old : List ℕ) (u : Lexeme) (m : ℕ) (new : List ℕ) : Type 0 where
   pub reading : Reading
-  pub runs : (h : Hole p) → depth h ≡ level → (s : State) × Stood p reading h s × (run (begins p h) (from text t) ≡ run s (from text u))
+  pub runs : (h : Hole p) → depth h ≡ level → (s : ReaderState) × Stood p reading h s × (run (begins p h) (from text t) ≡ run s (from text u))
   pub closed : Closed text (u .start)
   pub here : nextAt text (u .start) ≡ u
   pub passed : Passed text t u

@@ -32,13 +32,13 @@ depth (anding a h) = depth h
 depth (negating h) = suc (depth h)
 
 -- a factor is wanted; or a test's operand; or factors have been read, and their conjunction may go on
-pub data State : Type 0 where
-  want : Hole factor → State
-  operand : Name → Hole factor → State
-  have : Reading → Hole conjunction → State
+pub data ReaderState : Type 0 where
+  want : Hole factor → ReaderState
+  operand : Name → Hole factor → ReaderState
+  have : Reading → Hole conjunction → ReaderState
 
 -- the levels open in a state
-unfoldable pub level : State → ℕ
+unfoldable pub level : ReaderState → ℕ
 unfolding depth
 level (want h) = depth h
 level (operand k h) = depth h
@@ -50,26 +50,26 @@ pub data Why : Type 0 where
 
 -- what a token does to a state: it is taken, or it is taken and opens a level, or nothing takes it, or it breaks its test's rule
 pub data Move : Type 0 where
-  takes opens : State → Move
+  takes opens : ReaderState → Move
   stuck breaks : Move
 
 -- the reader goes on in a state, or stops
 pub data Step : Type 0 where
-  go : State → Step
+  go : ReaderState → Step
   stop : Why → Step
 
 -- where a list of tokens leads: to a state, or to a token that is refused, with those after it
 pub data Way : Type 0 where
-  came : State → Way
+  came : ReaderState → Way
   stopped : Why → List Token → Way
 
 -- the tokens from the refused one on; none, where the end is refused
-pub data Answer : Type 0 where
-  ok : Reading → Answer
-  refused : Why → List Token → Answer
+pub data ReaderAnswer : Type 0 where
+  ok : Reading → ReaderAnswer
+  refused : Why → List Token → ReaderAnswer
 
 -- a factor that reads as r has been read in h
-unfoldable pub settle : Reading → Hole factor → State
+unfoldable pub settle : Reading → Hole factor → ReaderState
 settle r (head h) = have r h
 settle r (anding a h) = have (joint and a r) h
 settle r (negating h) = settle (neg r) h
@@ -124,34 +124,34 @@ admit room stuck = stop bad
 admit room breaks = stop broken
 
 -- past a step: on from its state, or stopped at these tokens
-unfoldable pub follow : Step → (State → Way) → List Token → Way
+unfoldable pub follow : Step → (ReaderState → Way) → List Token → Way
 follow (go s) k us = k s
 follow (stop w) k us = stopped w us
 
 -- the end comes: the reading, if the state may end
-unfoldable pub finish : State → Option Reading
+unfoldable pub finish : ReaderState → Option Reading
 unfolding end outer
 finish (want h) = none
 finish (operand k h) = none
 finish (have r h) = end (outer r h)
 
 -- an end that is none is refused
-unfoldable pub conclude : Option Reading → Answer
+unfoldable pub conclude : Option Reading → ReaderAnswer
 conclude none = refused bad []
 conclude (some r) = ok r
 
 -- the answer, where the end comes after a walk
-unfoldable pub answered : Way → Answer
+unfoldable pub answered : Way → ReaderAnswer
 unfolding conclude finish
 answered (came s) = conclude (finish s)
 answered (stopped w ts) = refused w ts
 
 -- nothing has been read
-abbrev pub start : State
+abbrev pub start : ReaderState
 start = want (head (first whole))
 
 -- what a token does
-unfoldable pub move : State → Token → Move
+unfoldable pub move : ReaderState → Token → Move
 unfolding begin fill join leave outer
 move (want h) open′ = opens (want (head (first (grouping h))))
 move (want h) bang = opens (want (negating h))
@@ -171,17 +171,17 @@ move (have r h) (quoted v) = stuck
 
 module _ (limit : ℕ) where
   -- the same, with at most that many levels
-  unfoldable pub step : State → Token → Step
+  unfoldable pub step : ReaderState → Token → Step
   unfolding admit level move
   step s t = admit (ltb (level s) limit) (move s t)
 
   -- where tokens lead from a state
-  unfoldable pub walk : State → List Token → Way
+  unfoldable pub walk : ReaderState → List Token → Way
   unfolding step follow
   walk s [] = came s
   walk s (t ∷ ts) = follow (step s t) (λ s′. walk s′ ts) (t ∷ ts)
 
   -- the answer for these tokens, with at most that many levels open at once
-  unfoldable pub read : List Token → Answer
+  unfoldable pub read : List Token → ReaderAnswer
   unfolding walk answered
   read ts = answered (walk start ts)

@@ -5,7 +5,8 @@ use mathlib.Core.List.{List, [], _∷_}
 use Rattle.network.specs.declared.Relation.the-variants.{Exact, Supernet, Subnet, Related}
 use Rattle.program.specs.Readings.{Test, hasLoop, hasBogon, Operator, and, or}
 use Rattle.operand.specs.declared.Name.{Name}
-use Rattle.operand.specs.declared.Name.the-variants.{MessageType as typeName, Attribute as attributeName, Path as pathName, Peer as peerName, Time as timeName, Network as networkName}
+use Rattle.operand.specs.declared.Name.the-variants.{MessageType as typeName, Attribute as attributeName, Path as pathName}
+use Rattle.operand.specs.declared.Name.the-variants.{Peer as peerName, Time as timeName, Network as networkName}
 use Rattle.names.specs.Tables.{Row, row, In, found}
 
 -- what a word says where a factor or a joint may stand

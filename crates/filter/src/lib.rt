@@ -4,20 +4,25 @@ ghost use mathlib.Core.Bool.{false};
 ghost use mathlib.Core.Option.{some};
 ghost use Prim.Native.Nat.{_≤_, _<_, _+_};
 ghost use lib.ListN.{length};
+ghost use Rattle.token.specs.Texts.{textLimit};
 ghost use Rattle.token.specs.Next.{Closed, tokenIn};
 ghost use Rattle.filter.specs.Words.{roleOf, name as a-name};
 ghost use Rattle.filter.specs.Grammar.{expression as an-expression, conjunction as a-conjunction, factor as a-factor};
+ghost use Rattle.filter.specs.Levels.{levelLimit};
 ghost use Rattle.filter.specs.Answers.{numberOf};
 ghost use Rattle.filter.specs.Functions.{compilingOf, ourCompiler};
 ghost use Rattle.program.specs.Layout.{fields};
-ghost use Rattle.filter.specs.Parsing.{roleSaid, operandRows, roleIn, operandKind, opensLevel, Ready, PartSays, TestSays, Whole};
+ghost use Rattle.filter.specs.Parsing.{roleSaid, operandRows, roleIn, operandSort, opensLevel, Ready, PartSays, TestSays, Whole};
 ghost use Rattle.names.specs.Tables.{found};
 use network::Relation;
 use operand::Meant;
 use operand::Name;
 use program::Fields;
-use token::Kind;
 use token::Lexeme;
+use token::Sort;
+
+// The most levels open at once.
+const LEVEL_LIMIT: usize = 32;
 
 // Why a text isn't compiled, in the order of the table.
 pub enum Refusal {
@@ -125,8 +130,8 @@ fn said(word: &[u8]) -> Role
 fn role_of(text: &[u8], t: Lexeme) -> Role
     ensures { λ r. ⌜ roleSaid r ≡ roleIn (tokenIn (now (text .entry)) t) ⌝ }
 {
-    let kind = t.kind;
-    let Kind::Word = kind else {
+    let sort = t.sort;
+    let Sort::Word = sort else {
         return Role::Unknown;
     };
     said(token::bytes(text, t))
@@ -146,17 +151,17 @@ fn plain(kind: u32, count: u32) -> Fields
 }
 
 // Whether a token may be an operand.
-fn is_operand(kind: Kind) -> bool
-    ensures { λ r. ⌜ r ≡ operandKind kind ⌝ }
+fn is_operand(sort: Sort) -> bool
+    ensures { λ r. ⌜ r ≡ operandSort sort ⌝ }
 {
-    match kind {
-        Kind::End => false,
-        Kind::Open => false,
-        Kind::Close => false,
-        Kind::Bang => false,
-        Kind::Word => true,
-        Kind::Quoted => true,
-        Kind::Unclosed => false,
+    match sort {
+        Sort::End => false,
+        Sort::Open => false,
+        Sort::Close => false,
+        Sort::Bang => false,
+        Sort::Word => true,
+        Sort::Quoted => true,
+        Sort::Unclosed => false,
     }
 }
 
@@ -166,8 +171,8 @@ fn named(text: &[u8], name: Name, word: Lexeme, out: &mut [u8], n: usize) -> Par
     ensures { λ r. ⌜ TestSays (now (text .entry)) word n (now (out .entry)) r (now (out .exit)) ⌝ }
 {
     let t = token::next(text, word.end);
-    let kind = t.kind;
-    if !is_operand(kind) {
+    let sort = t.sort;
+    if !is_operand(sort) {
         return Parsed::Refused {
             refusal: Refusal::Token,
             place: t.start,
@@ -175,41 +180,37 @@ fn named(text: &[u8], name: Name, word: Lexeme, out: &mut [u8], n: usize) -> Par
     }
     let bytes = token::bytes(text, t);
     let found = operand::meaning(name, bytes);
-    let Meant::Head(fields) = found else {
+    let Meant::Head { fields, following } = found else {
         return Parsed::Refused {
             refusal: Refusal::Operand,
             place: t.start,
         };
     };
     let next = token::next(text, t.end);
-    let m = n + 1;
-    let items = program::put_record(out, 16 * n, fields);
-    if fields.kind == 3 {
-        operand::put_items(bytes, out, items);
-        return Parsed::Upto {
-            next,
-            n: m + (fields.count as usize),
-        };
+    let items = program::put_record(out, program::RECORD_SIZE * n, fields);
+    operand::put_items(name, bytes, out, items);
+    Parsed::Upto {
+        next,
+        n: n + 1 + (following as usize),
     }
-    Parsed::Upto { next, n: m }
 }
 
 // A test; its records go from record n on.
 fn test(text: &[u8], t: Lexeme, out: &mut [u8], n: usize) -> Parsed
-    requires { ⌜ Ready (now text) t n × (opensLevel (t .kind) ≡ false) ⌝ }
+    requires { ⌜ Ready (now text) t n × (opensLevel (t .sort) ≡ false) ⌝ }
     ensures { λ r. ⌜ TestSays (now (text .entry)) t n (now (out .entry)) r (now (out .exit)) ⌝ }
 {
     let role = role_of(text, t);
     match role {
         Role::Loops => {
-            program::put_record(out, 16 * n, plain(6, 0));
+            program::put_record(out, program::RECORD_SIZE * n, plain(program::LOOPS, 0));
             Parsed::Upto {
                 next: token::next(text, t.end),
                 n: n + 1,
             }
         }
         Role::Bogons => {
-            program::put_record(out, 16 * n, plain(7, 0));
+            program::put_record(out, program::RECORD_SIZE * n, plain(program::BOGON, 0));
             Parsed::Upto {
                 next: token::next(text, t.end),
                 n: n + 1,
@@ -225,13 +226,13 @@ fn test(text: &[u8], t: Lexeme, out: &mut [u8], n: usize) -> Parsed
 
 // `!` factor, `(` expression `)`, or a test.
 fn factor(text: &[u8], level: usize, t: Lexeme, out: &mut [u8], n: usize) -> Parsed
-    requires { ⌜ (level ≤ 32) × Ready (now text) t n ⌝ }
+    requires { ⌜ (level ≤ levelLimit) × Ready (now text) t n ⌝ }
     ensures { λ r. ⌜ PartSays a-factor (now (text .entry)) level t n (now (out .entry)) r (now (out .exit)) ⌝ }
 {
-    let kind = t.kind;
-    match kind {
-        Kind::Bang => {
-            if 32 <= level {
+    let sort = t.sort;
+    match sort {
+        Sort::Bang => {
+            if LEVEL_LIMIT <= level {
                 return Parsed::Refused {
                     refusal: Refusal::Level,
                     place: t.start,
@@ -241,11 +242,11 @@ fn factor(text: &[u8], level: usize, t: Lexeme, out: &mut [u8], n: usize) -> Par
             let Parsed::Upto { next, n: m } = r else {
                 return r;
             };
-            program::put_record(out, 16 * m, plain(10, 0));
+            program::put_record(out, program::RECORD_SIZE * m, plain(program::FLIP, 0));
             Parsed::Upto { next, n: m + 1 }
         }
-        Kind::Open => {
-            if 32 <= level {
+        Sort::Open => {
+            if LEVEL_LIMIT <= level {
                 return Parsed::Refused {
                     refusal: Refusal::Level,
                     place: t.start,
@@ -255,8 +256,8 @@ fn factor(text: &[u8], level: usize, t: Lexeme, out: &mut [u8], n: usize) -> Par
             let Parsed::Upto { next, n: m } = r else {
                 return r;
             };
-            let close = next.kind;
-            let Kind::Close = close else {
+            let close = next.sort;
+            let Sort::Close = close else {
                 return Parsed::Refused {
                     refusal: Refusal::Token,
                     place: next.start,
@@ -273,7 +274,7 @@ fn factor(text: &[u8], level: usize, t: Lexeme, out: &mut [u8], n: usize) -> Par
 
 // Factors joined by `-and`. A pass is written when the count of the records that it passes over is known.
 fn conjunction(text: &[u8], level: usize, t: Lexeme, out: &mut [u8], n: usize) -> Parsed
-    requires { ⌜ (level ≤ 32) × Ready (now text) t n ⌝ }
+    requires { ⌜ (level ≤ levelLimit) × Ready (now text) t n ⌝ }
     ensures { λ r. ⌜ PartSays a-conjunction (now (text .entry)) level t n (now (out .entry)) r (now (out .exit)) ⌝ }
 {
     let r = factor(text, level, t, out, n);
@@ -291,7 +292,11 @@ fn conjunction(text: &[u8], level: usize, t: Lexeme, out: &mut [u8], n: usize) -
         let Parsed::Upto { next, n: m1 } = q else {
             return q;
         };
-        program::put_record(out, 16 * m, plain(11, (m1 - m - 1) as u32));
+        program::put_record(
+            out,
+            program::RECORD_SIZE * m,
+            plain(program::AND, (m1 - m - 1) as u32),
+        );
         u = next;
         m = m1;
     }
@@ -299,7 +304,7 @@ fn conjunction(text: &[u8], level: usize, t: Lexeme, out: &mut [u8], n: usize) -
 
 // Conjunctions joined by `-or`.
 fn expression(text: &[u8], level: usize, t: Lexeme, out: &mut [u8], n: usize) -> Parsed
-    requires { ⌜ (level ≤ 32) × Ready (now text) t n ⌝ }
+    requires { ⌜ (level ≤ levelLimit) × Ready (now text) t n ⌝ }
     ensures { λ r. ⌜ PartSays an-expression (now (text .entry)) level t n (now (out .entry)) r (now (out .exit)) ⌝ }
 {
     let r = conjunction(text, level, t, out, n);
@@ -317,7 +322,11 @@ fn expression(text: &[u8], level: usize, t: Lexeme, out: &mut [u8], n: usize) ->
         let Parsed::Upto { next, n: m1 } = q else {
             return q;
         };
-        program::put_record(out, 16 * m, plain(12, (m1 - m - 1) as u32));
+        program::put_record(
+            out,
+            program::RECORD_SIZE * m,
+            plain(program::OR, (m1 - m - 1) as u32),
+        );
         u = next;
         m = m1;
     }
@@ -325,15 +334,15 @@ fn expression(text: &[u8], level: usize, t: Lexeme, out: &mut [u8], n: usize) ->
 
 // A whole text, whose records go over the start of a buffer, as far as it reaches.
 fn parse(text: &[u8], out: &mut [u8]) -> Parsed
-    requires { ⌜ (length (now text) ≤ 4096) × Closed (now text) 0 ⌝ }
+    requires { ⌜ (length (now text) ≤ textLimit) × Closed (now text) 0 ⌝ }
     ensures { λ r. ⌜ Whole (now (text .entry)) (now (out .entry)) r (now (out .exit)) ⌝ }
 {
     let r = expression(text, 0, token::next(text, 0), out, 0);
     let Parsed::Upto { next, n: _ } = r else {
         return r;
     };
-    let kind = next.kind;
-    let Kind::End = kind else {
+    let sort = next.sort;
+    let Sort::End = sort else {
         return Parsed::Refused {
             refusal: Refusal::Token,
             place: next.start,
@@ -346,7 +355,7 @@ fn parse(text: &[u8], out: &mut [u8]) -> Parsed
 pub fn compile(text: &[u8], program: &mut [u8]) -> Compiled
     ensures { λ r. ⌜ compilingOf r (now (program .exit)) ≡ ourCompiler (now (text .entry)) (now (program .entry)) ⌝ }
 {
-    if 4096 < text.len() {
+    if token::TEXT_LIMIT < text.len() {
         return Compiled::Refused(Refusal::Length, 0);
     }
     let byte = token::forbidden(text);
@@ -362,14 +371,14 @@ pub fn compile(text: &[u8], program: &mut [u8]) -> Compiled
     match measured {
         Parsed::Refused { refusal, place } => Compiled::Refused(refusal, place),
         Parsed::Upto { next: _, n } => {
-            if 512 < n {
+            if program::WEIGHT_LIMIT < n {
                 return Compiled::Refused(Refusal::Weight, 0);
             }
-            if program.len() < 16 * n {
+            if program.len() < program::RECORD_SIZE * n {
                 return Compiled::Refused(Refusal::Room, 0);
             }
             parse(text, program);
-            Compiled::Program(16 * n)
+            Compiled::Program(program::RECORD_SIZE * n)
         }
     }
 }

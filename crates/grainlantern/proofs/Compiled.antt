@@ -8,7 +8,7 @@ use Rattle.token.proofs.Lexing.{unclosed-within}
 use Rattle.filter.specs.declared.Refusal.{Refusal}
 use Rattle.filter.specs.declared.Compiled.{Compiled}
 use Rattle.filter.specs.declared.Compiled.the-variants.{Program, Refused}
-use Rattle.filter.specs.Answers.{numberOf, Outcome, Answers, too-long, forbidden, unclosed, bad-first, bad-end, too-heavy, no-room, compiles}
+use Rattle.filter.specs.Answers.{numberOf, TextOutcome, TextAnswers, too-long, forbidden, unclosed, bad-first, bad-end, too-heavy, no-room, compiles}
 use Rattle.filter.specs.Functions.{Compiling, reported, compilingOf, compiling, ourCompiler}
 use Rattle.filter.proofs.Answered.{answer-given}
 use Rattle.filter.proofs.Numbers.{number-between}
@@ -17,7 +17,7 @@ use Rattle.grainlantern.specs.Refusal.{RefusedAt}
 use Rattle.grainlantern.specs.Output.{Lent}
 
 -- a place or a program's bytes
-value-fits : {text : List ℕ} {room : ℕ} {o : Outcome} → Answers text room o → (old : List ℕ) → length text < 2 ^ 32
+value-fits : {text : List ℕ} {room : ℕ} {o : TextOutcome} → TextAnswers text room o → (old : List ℕ) → length text < 2 ^ 32
     → compiling o old .value < 2 ^ 32
 value-fits (too-long h) old l = omega arith
 value-fits (forbidden h f) old l = omega (arith, f .within)

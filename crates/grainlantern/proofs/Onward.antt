@@ -7,7 +7,7 @@ use mathlib.Core.Path.{_≡_, refl, ap}
 use mathlib.Core.List.{List}
 use mathlib.Core.Option.{Option, some}
 use lib.ListN.{length}
-use Rattle.octets.specs.Header.{headerSize}
+use Rattle.header.specs.Header.{headerSize}
 use Rattle.octets.specs.Numbers.{numberAt}
 use Rattle.walk.proofs.Steps.{step-past, step-short, step-overrun, step-whole}
 use Rattle.judge.specs.declared.Judged.{Judged}

@@ -10,7 +10,7 @@ use Rattle.judge.specs.declared.Judged.the-variants.{Kept, Dropped, Refused}
 use Rattle.judge.specs.declared.Tally.{Tally}
 use Rattle.judge.specs.Tallies.{tally}
 use Rattle.judge.specs.Functions.{judgingOf, ourJudge}
-use Rattle.run.specs.Runs.{judged, State, start, answerOf, runnerOf}
+use Rattle.run.specs.Runs.{judged, RunState, start, answerOf, runnerOf}
 
 -- these bytes are lent as the program: compiling some text reports them
 pub record Lent (program : List ℕ) : Type 0 where
@@ -21,12 +21,12 @@ pub record Lent (program : List ℕ) : Type 0 where
 
 -- the lines that an answer hands out, with the line buffer afterwards: those of a kept record, at its start
 abbrev pub keptLines : Judged → List ℕ → List ℕ
-keptLines (Kept steps bytes) lines = take bytes lines
-keptLines (Dropped steps) lines = []
+keptLines (Kept spent bytes) lines = take bytes lines
+keptLines (Dropped spent) lines = []
 keptLines (Refused why) lines = []
 
 -- where a run begins: at the first byte, with nothing counted
-abbrev pub begins : List ℕ → State
+abbrev pub begins : List ℕ → RunState
 begins lines = start lines (some (tally 0 0 0 0))
 
 -- some step of the run over the records, from its start with some line buffer, hands out these bytes

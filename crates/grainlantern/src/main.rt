@@ -12,6 +12,9 @@ use libc::STDIN_FILENO;
 use libc::STDOUT_FILENO;
 use run::Ran;
 
+// One byte more than a text may have, so that one that is too long is seen.
+const FILTER_ROOM: usize = token::TEXT_LIMIT + 1;
+
 // Reads to the end of a file, or until the room is full, and answers the bytes read. A read that fails gives 0: what came before it would be
 // another filter.
 fn read_file(fd: i32, room: &mut [u8]) -> usize {
@@ -94,8 +97,8 @@ fn kept_lines(judged: Judged, lines: &[u8]) -> &[u8]
     ensures { λ r. ⌜ now r ≡ keptLines judged (now (lines .entry)) ⌝ }
 {
     match judged {
-        Judged::Kept { steps: _, bytes } => octets::part(lines, 0, bytes),
-        Judged::Dropped { steps: _ } => octets::part(lines, 0, 0),
+        Judged::Kept { spent: _, bytes } => octets::part(lines, 0, bytes),
+        Judged::Dropped { spent: _ } => octets::part(lines, 0, 0),
         Judged::Refused(_) => octets::part(lines, 0, 0),
     }
 }
@@ -149,8 +152,8 @@ fn filter_records(program: &[u8])
 
 fn main() {
     // a byte more than a text may have, and the longest program
-    let mut text = [0u8; 4097];
-    let mut program = [0u8; 8192];
+    let mut text = [0u8; FILTER_ROOM];
+    let mut program = [0u8; program::PROGRAM_LIMIT];
     let length = read_filter(&mut text);
     let compiled = filter::compile(octets::part(&text, 0, length), &mut program);
     match compiled {

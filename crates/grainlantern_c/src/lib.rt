@@ -40,14 +40,15 @@ pub extern "C" fn grainlantern_compile(text: &[u8], program: &mut [u8], value: &
 
 // What judging answered, as a number and its values.
 fn answer_judged(value: &mut [u64; 4], judged: Judged) -> u32
-    ensures { λ r. ⌜ ((lines : List ℕ) (counting : Option Tally) → (r, now (value .exit), lines, counting) ≡ judgedForC (judgingOf judged lines counting)) ⌝ }
+    ensures { λ r. ⌜ ((lines : List ℕ) (counting : Option Tally) → (r, now (value .exit), lines, counting)
+        ≡ judgedForC (judgingOf judged lines counting)) ⌝ }
 {
     match judged {
-        Judged::Kept { steps, bytes } => {
-            *value = [steps as u64, bytes as u64, 0, 0];
+        Judged::Kept { spent, bytes } => {
+            *value = [spent.steps as u64, bytes as u64, 0, 0];
             1
         }
-        Judged::Dropped { steps } => answer(value, 0, steps as u64),
+        Judged::Dropped { spent } => answer(value, 0, spent.steps as u64),
         Judged::Refused(refusal) => answer(value, judge::number_of(refusal), 0),
     }
 }
@@ -60,7 +61,8 @@ pub extern "C" fn grainlantern_judge(
     lines: &mut [u8],
     value: &mut [u64; 4],
 ) -> u32
-    ensures { λ r. ⌜ (r, now (value .exit), now (lines .exit), none) ≡ judgedForC (ourJudge (now (program .entry)) (now (bytes .entry)) (now (lines .entry)) none) ⌝ }
+    ensures { λ r. ⌜ (r, now (value .exit), now (lines .exit), none)
+        ≡ judgedForC (ourJudge (now (program .entry)) (now (bytes .entry)) (now (lines .entry)) none) ⌝ }
 {
     let judged = judge::judge(program, bytes, lines);
     answer_judged(value, judged)
@@ -75,7 +77,8 @@ pub extern "C" fn grainlantern_judge_counted(
     tally: &mut Tally,
     value: &mut [u64; 4],
 ) -> u32
-    ensures { λ r. ⌜ (r, now (value .exit), now (lines .exit), some (now (tally .exit))) ≡ judgedForC (ourJudge (now (program .entry)) (now (bytes .entry)) (now (lines .entry)) (some (now (tally .entry)))) ⌝ }
+    ensures { λ r. ⌜ (r, now (value .exit), now (lines .exit), some (now (tally .exit)))
+        ≡ judgedForC (ourJudge (now (program .entry)) (now (bytes .entry)) (now (lines .entry)) (some (now (tally .entry)))) ⌝ }
 {
     let judged = judge::judge_counted(program, bytes, lines, tally);
     answer_judged(value, judged)

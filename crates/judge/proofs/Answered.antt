@@ -21,13 +21,15 @@ use Rattle.message.proofs.RecordReads.{represents-read, read-represents}
 use Rattle.message.proofs.Refused.{refused-sound, refused-complete}
 use Rattle.line.specs.Line.{linesOf}
 use Rattle.program.specs.Machine.{machine}
-use Rattle.program.specs.Validity.{Valid, isValid}
+use Rattle.program.specs.declared.Spent.{Spent}
+use Rattle.program.specs.Validity.{Valid}
+use Rattle.program.specs.Checks.{isValid}
 use Rattle.program.proofs.Valid.{valid-sound, valid-complete}
 use Rattle.truth.specs.Records.{recordTruth}
 use Rattle.judge.specs.declared.Tally.{Tally}
 use Rattle.judge.specs.declared.Refusal.the-variants.{Program, Count, Record, Lines}
 use Rattle.judge.specs.Tallies.{FullTally, isFullTally}
-use Rattle.judge.specs.Answers.{Outcome, kept, refused, Answers, not-valid, full, unread, drops, short, keeps}
+use Rattle.judge.specs.Answers.{RecordOutcome, kept, refused, RecordAnswers, not-valid, full, unread, drops, short, keeps}
 use Rattle.judge.specs.Judging.{judgedBy, decoded, judgeOf}
 use Rattle.judge.proofs.Tallies.{tally-sound, tally-complete}
 
@@ -44,34 +46,34 @@ module _ {program bytes : List ℕ} {room : ℕ} {counting : Option Tally} where
 
   module _ (v : Valid program) (n : FullTally counting → ⊥) where
     -- of a record that represents a message: the verdict, or 19
-    judged-given : {m : Message} → Represents m bytes → (x : Bool × ℕ) → machine (recordTruth m) program ≡ x
-        → Answers program bytes room counting (judgedBy room m x)
-    judged-given r (false, steps) e = drops v n r e
-    judged-given {m} r (true, steps) e = by-room (ltb room (length (linesOf m))) refl
+    judged-given : {m : Message} → Represents m bytes → (x : Bool × Spent) → machine (recordTruth m) program ≡ x
+        → RecordAnswers program bytes room counting (judgedBy room m x)
+    judged-given r (false, spent) e = drops v n r e
+    judged-given {m} r (true, spent) e = by-room (ltb room (length (linesOf m))) refl
       where
         by-room : (b : Bool) → ltb room (length (linesOf m)) ≡ b
-            → Answers program bytes room counting (pick b (refused Lines) (kept steps (linesOf m)))
+            → RecordAnswers program bytes room counting (pick b (refused Lines) (kept spent (linesOf m)))
         by-room true h = short v n r e (ltb-true _ _ h)
         by-room false h = keeps v n r e (ltb-false _ _ h)
 
     -- of any record: 11 to 18 too
-    decoded-given : Octets bytes → (d : Decoded) → decodeOf bytes ≡ d → Answers program bytes room counting (decoded program bytes room d)
+    decoded-given : Octets bytes → (d : Decoded) → decodeOf bytes ≡ d → RecordAnswers program bytes room counting (decoded program bytes room d)
     decoded-given o (Read p) e = judged-given (read-represents o e) (machine (recordTruth (messageAt bytes p)) program) refl
     decoded-given o (Refused why) e = unread v n (refused-sound o e)
 
   -- with a valid program: 21 too
   counting-given : Octets bytes → Valid program → (b : Bool) → isFullTally counting ≡ b
-      → Answers program bytes room counting (pick b (refused Count) (decoded program bytes room (decodeOf bytes)))
+      → RecordAnswers program bytes room counting (pick b (refused Count) (decoded program bytes room (decodeOf bytes)))
   counting-given o v true e = full v (tally-sound counting e)
   counting-given o v false e = decoded-given v (decides-false (full-decides counting) e) o (decodeOf bytes) refl
 
   -- with any program: 20 too
-  pub judge-given : Octets program → Octets bytes → Answers program bytes room counting (judgeOf program bytes room counting)
+  pub judge-given : Octets program → Octets bytes → RecordAnswers program bytes room counting (judgeOf program bytes room counting)
   unfolding judgeOf
   judge-given p o = by-program (isValid program) refl
     where
       by-program : (b : Bool) → isValid program ≡ b
-          → Answers program bytes room counting
+          → RecordAnswers program bytes room counting
           (pick b (pick (isFullTally counting) (refused Count) (decoded program bytes room (decodeOf bytes))) (refused Program))
       by-program true e = counting-given o (valid-sound program p e) (isFullTally counting) refl
       by-program false e = not-valid (decides-false (valid-decides p) e)
@@ -106,7 +108,7 @@ module _ {program : List ℕ} {counting : Option Tally} (v : Valid program) (n :
 
 module _ {program bytes : List ℕ} {room : ℕ} {counting : Option Tally} (p : Octets program) (b : Octets bytes) where
   -- judging gives no other answer
-  pub only-judged : {o : Outcome} → Answers program bytes room counting o → judgeOf program bytes room counting ≡ o
+  pub only-judged : {o : RecordOutcome} → RecordAnswers program bytes room counting o → judgeOf program bytes room counting ≡ o
   unfolding judgeOf
   only-judged (not-valid n) = rw (decides-not (valid-decides p) n)
   only-judged (full v f) = full-judged v f bytes room
@@ -116,5 +118,5 @@ module _ {program bytes : List ℕ} {room : ℕ} {counting : Option Tally} (p : 
   only-judged (keeps {m} v n r e h) = message-judged v n r room ∙ ap (judgedBy room m) e ∙ rw (le-ltb _ _ h)
 
   -- so there is one answer at most
-  pub answers-one : {o o′ : Outcome} → Answers program bytes room counting o → Answers program bytes room counting o′ → o ≡ o′
+  pub answers-one : {o o′ : RecordOutcome} → RecordAnswers program bytes room counting o → RecordAnswers program bytes room counting o′ → o ≡ o′
   answers-one x y = sym (only-judged x) ∙ only-judged y

@@ -1,12 +1,12 @@
 -- Laws of answers: that they stand for their outcomes, and that a tally that isn't full has room in each count. Assumes nothing.
-use Prim.Native.Nat.{ℕ, _*_, _≤_}
+use Prim.Native.Nat.{ℕ}
 use mathlib.Core.Path.{_≡_, refl, sym, _∙_}
 use mathlib.Core.Bool.{Bool, true, false}
 use mathlib.Core.List.{List}
 use lib.ListN.{length}
-use lib.Dec.{eqb, leb}
-use borrow.Author.Tests.{eqb-false, leb-true, le-ltb, lt-ltb}
-use Rattle.octets.proofs.Choices.{never, each, second-chosen}
+use lib.Dec.{eqb}
+use borrow.Author.Tests.{eqb-false, le-ltb, lt-ltb}
+use Rattle.octets.proofs.Choices.{never, second-chosen}
 use Rattle.message.specs.declared.Parts.{Parts}
 use Rattle.message.specs.declared.Refusal.{Refusal}
 use Rattle.message.specs.declared.Decoded.{Decoded}
@@ -17,9 +17,7 @@ use Rattle.line.specs.declared.Wrote.the-variants.{Bytes, Short}
 use Rattle.line.specs.Line.{linesOf}
 use Rattle.line.specs.Answer.{writingOf, writing}
 use Rattle.line.proofs.Told.{short-told, bytes-told}
-use Rattle.program.specs.Records.{weightLimit}
-use Rattle.program.specs.Layout.{recordSize}
-use Rattle.program.specs.Validity.{isValid}
+use Rattle.program.specs.declared.Spent.{Spent}
 use Rattle.program.specs.Machine.{machine}
 use Rattle.truth.specs.Records.{recordTruth}
 use Rattle.judge.specs.declared.Tally.{Tally}
@@ -30,12 +28,7 @@ use Rattle.judge.specs.Tallies.{fullCount, isFull}
 use Rattle.judge.specs.Answers.{linesAfter}
 use Rattle.judge.specs.Judging.{decoded}
 use Rattle.judge.specs.Functions.{valueOf}
-use Rattle.judge.specs.Executing.{tallyOf, Answer}
-
--- a valid program has at most 8,192 bytes
-pub valid-few : (program : List ℕ) → isValid program ≡ true → length program ≤ recordSize * weightLimit
-unfolding isValid
-valid-few program e = leb-true _ _ (each (leb (length program) (recordSize * weightLimit)) _ (each (leb recordSize (length program)) _ e .1) .0)
+use Rattle.judge.specs.Executing.{tallyOf, JudgedAs}
 
 -- ---- tallies
 
@@ -67,7 +60,7 @@ room t e =
 abbrev Comes : List ℕ → List ℕ → List ℕ → Judged → List ℕ → Type 0
 Comes program bytes old j new =
     let o = decoded program bytes (length old) (decodeOf bytes) in
-    Answer j o × (new ≡ linesAfter o old)
+    JudgedAs j o × (new ≡ linesAfter o old)
 
 module _ (program bytes old : List ℕ) (d : Decoded) (decoding : decodingOf d ≡ ourDecoding bytes) where
   -- the outcome goes by what the decoder said
@@ -79,13 +72,13 @@ module _ (program bytes old : List ℕ) (d : Decoded) (decoding : decodingOf d �
   unfolding valueOf tallyOf
   comes-unread why e = rw (goes-by e) (record { said = refl; counts = λ t. refl }, refl)
 
-  module _ (parts : Parts) (read : d ≡ Read parts) (steps : ℕ) where
+  module _ (parts : Parts) (read : d ≡ Read parts) (spent : Spent) where
     -- a record that is dropped
-    pub comes-dropped : (false, steps) ≡ machine (recordTruth (messageAt bytes parts)) program → Comes program bytes old (Dropped steps) old
+    pub comes-dropped : (false, spent) ≡ machine (recordTruth (messageAt bytes parts)) program → Comes program bytes old (Dropped spent) old
     unfolding valueOf tallyOf
     comes-dropped e = rw (goes-by read, ← e) (record { said = refl; counts = λ t. refl }, refl)
 
-    module _ (ran : (true, steps) ≡ machine (recordTruth (messageAt bytes parts)) program) (new : List ℕ) where
+    module _ (ran : (true, spent) ≡ machine (recordTruth (messageAt bytes parts)) program) (new : List ℕ) where
       -- one that is kept without room for its lines
       pub comes-short : writingOf Short new ≡ writing (linesOf (messageAt bytes parts)) old → Comes program bytes old (Refused Lines) new
       unfolding valueOf tallyOf
@@ -94,7 +87,7 @@ module _ (program bytes old : List ℕ) (d : Decoded) (decoding : decodingOf d �
           rw (goes-by read, ← ran, lt-ltb _ _ (x .0)) (record { said = refl; counts = λ t. refl }, x .1)
 
       -- one that is kept, with its lines
-      pub comes-kept : (size : ℕ) → writingOf (Bytes size) new ≡ writing (linesOf (messageAt bytes parts)) old → Comes program bytes old (Kept steps size) new
+      pub comes-kept : (size : ℕ) → writingOf (Bytes size) new ≡ writing (linesOf (messageAt bytes parts)) old → Comes program bytes old (Kept spent size) new
       unfolding valueOf tallyOf
       comes-kept size e =
           let x = bytes-told (linesOf (messageAt bytes parts)) old e in

@@ -1,177 +1,187 @@
--- Laws of the machine a record at a time: its class by its kind, the state after it, and that going on from there is the machine. Assumes nothing.
+-- Laws of the machine a record at a time, over a valid program: going on from the state after the next record is the machine. Assumes nothing.
 use Prim.Native.Nat.{ℕ, zero, suc, _+_, _*_, _≤_, _<_}
-use native.Mathlib.Nat.{lt-of-not-le}
-use native.Mathlib.Decide.{decLe}
-use native.Mathlib.Numerals.{add-one}
 use native.Mathlib.Omega.{arith}
 use mathlib.Core.Path.{_≡_, refl, sym, ap, _∙_}
-use mathlib.Core.Bool.{Bool, true, false, not}
-use mathlib.Core.List.{List}
-use lib.ListN.{length, drop, length-drop}
-use lib.Seq.{drop-drop}
-use borrow.Author.Tests.{ne-eqb}
+use mathlib.Core.Bool.{Bool, not}
+use mathlib.Core.Option.{Option, some}
+use mathlib.Core.List.{List, [], _∷_, _++_}
+use lib.ListN.{length, getD, take, drop, length-drop, drop-of-length-le}
+use lib.Seq.{drop-drop, drop-cons}
 use Rattle.octets.specs.Choice.{pick}
-use Rattle.octets.proofs.Choices.{never}
-use Rattle.octets.proofs.Ranges.{within}
-use Rattle.aspath.specs.declared.Item.{Item}
+use Rattle.octets.specs.Numbers.{Octets}
+use Rattle.octets.proofs.Every.{every-place, every-drop}
 use Rattle.message.specs.Message.{Message}
 use Rattle.program.specs.declared.Fields.{Fields}
-use Rattle.program.specs.Readings.{Operator, and, or, open′}
-use Rattle.program.specs.Records.{Record}
-use Rattle.program.specs.Layout.{recordSize, fields, fieldsIn, isTestKind, recordIs, decode, operatorKind}
-use Rattle.program.specs.Machine.{Class, aTest, anItem, aFlip, aPass, classOf, moved, exec, recordsIn}
-use Rattle.program.proofs.ValidKinds.{test-range}
-use Rattle.program.proofs.ValidRecords.{records-none, records-next}
-use Rattle.truth.specs.Records.{recordTruth, truthAt}
-use Rattle.judge.specs.declared.State.{State}
-use Rattle.judge.specs.Executing.{movedAt, stateAfter}
+use Rattle.program.specs.declared.Spent.{Spent}
+use Rattle.program.specs.declared.Class.{Class}
+use Rattle.program.specs.declared.Class.the-variants.{Test as aTest, Item as anItem, Flip as aFlip, Pass as aPass, Unknown as unknown}
+use Rattle.program.specs.Spent.{oneStep, together}
+use Rattle.program.specs.Readings.{and, or, open′}
+use Rattle.program.specs.Records.{Head, Record, head, item, flip, pass, countOf}
+use Rattle.program.specs.Kinds.{classOf, classIs}
+use Rattle.program.specs.Layout.{recordSize, fieldsOf, headFields, encode, encodeAll, fieldsIn, decode, recordsIn}
+use Rattle.program.specs.Machine.{exec}
+use Rattle.program.specs.Checks.{followingIn}
+use Rattle.program.proofs.LayoutLaws.{encodeAll-length, decode-encode, records-encoded}
+use Rattle.program.proofs.MachineLaws.{exec-over}
+use Rattle.program.proofs.ValidKinds.{class-kind, head-following, record-read}
+use Rattle.program.proofs.ValidRecords.{Right, encodeAll-drop, encodeAll-at}
+use Rattle.truth.specs.Records.{recordTruth, truthOf, truthAt}
+use Rattle.judge.specs.declared.MachineState.{MachineState}
+use Rattle.judge.specs.Executing.{passedOver, onFrom, stateBy, stateAfter}
 
--- ---- the class of the record that fields say
+-- ---- the state after a record, of whatever program
 
--- 4 is an item
-item-class : (f : Fields) → f .kind ≡ 4 → classOf (recordIs f) ≡ anItem
-unfolding classOf recordIs
-item-class f e = rw e refl
+-- a record is at most one step
+few-steps : (c : Class) (f : Fields) (truth : Bool) (s : MachineState) → stateBy c f truth s .spent .steps ≤ suc (s .spent .steps)
+few-steps aTest f truth s = omega arith
+few-steps anItem f truth s = omega arith
+few-steps aFlip f truth s = omega arith
+few-steps aPass f truth s = omega arith
+few-steps unknown f truth s = omega arith
 
--- 11 and 12 are passes
-pass-class : (o : Operator) (f : Fields) → f .kind ≡ operatorKind o → classOf (recordIs f) ≡ aPass o (f .count)
-unfolding classOf recordIs
-pass-class and f e = rw e refl
-pass-class or f e = rw e refl
+-- the place is further by a record at least
+far-on : (c : Class) (f : Fields) (truth : Bool) (s : MachineState) → s .at + recordSize ≤ stateBy c f truth s .at
+far-on aTest f truth s = omega arith
+far-on anItem f truth s = omega arith
+far-on aFlip f truth s = omega arith
+far-on aPass f truth s = omega arith
+far-on unknown f truth s = omega arith
 
-module _ (v c a b : ℕ) where
-  -- a kind each
-  test-by : (k : ℕ) → k ≤ 9 → isTestKind k ≡ true → classOf (recordIs (fields k v c a b)) ≡ aTest
-  unfolding classOf recordIs
-  test-by k h =
-      within 9 (λ n. isTestKind n ≡ true → classOf (recordIs (fields n v c a b)) ≡ aTest) k h
-      never (λ e. refl) (λ e. refl) (λ e. refl) never (λ e. refl) (λ e. refl) (λ e. refl) (λ e. refl) (λ e. refl)
+-- past no other
+pub on-next : (s : MachineState) (flag : Bool) (spent : Spent) → record { at = s .at + recordSize; flag = flag; spent = spent } ≡ onFrom s 0 flag spent
+on-next s flag spent = ap (λ (n : ℕ). record { at = n; flag = flag; spent = spent }) {x = s .at + recordSize} (omega arith)
 
-  -- one each up to 9, and those above by the tests that fail
-  flip-by : (k : ℕ) → (k ≡ 4 → ⊥) → (k ≡ 11 → ⊥) → (k ≡ 12 → ⊥) → Dec (k ≤ 9) → isTestKind k ≡ false → classOf (recordIs (fields k v c a b)) ≡ aFlip
-  unfolding classOf recordIs
-  flip-by k n4 n11 n12 (yes h) e =
-      within 9 (λ n. (n ≡ 4 → ⊥) → isTestKind n ≡ false → classOf (recordIs (fields n v c a b)) ≡ aFlip) k h
-      (λ n e. refl) no-test no-test no-test (λ n e. absurd (n refl)) no-test no-test no-test no-test no-test n4 e
-    where
-      no-test : {P Q : Type 0} → Q → true ≡ false → P
-      no-test q e = never (sym e)
-  flip-by k n4 n11 n12 (no n) e =
-      let h : 9 < k = lt-of-not-le n in
-      let other : (i : ℕ) → i ≤ 9 → k ≡ i → ⊥ = λ i g x. omega arith in
-      simp (
-        ne-eqb k 1 (other 1 (omega arith)),
-        ne-eqb k 2 (other 2 (omega arith)),
-        ne-eqb k 3 (other 3 (omega arith)),
-        ne-eqb k 4 n4,
-        ne-eqb k 5 (other 5 (omega arith)),
-        ne-eqb k 6 (other 6 (omega arith)),
-        ne-eqb k 7 (other 7 (omega arith)),
-        ne-eqb k 8 (other 8 (omega arith)),
-        ne-eqb k 9 (other 9 (omega arith)),
-        ne-eqb k 11 n11,
-        ne-eqb k 12 n12,
-      )
-
--- 1 to 9 are tests, but for 4
-test-class : (f : Fields) → isTestKind (f .kind) ≡ true → classOf (recordIs f) ≡ aTest
-test-class f e = test-by (f .variant) (f .count) (f .a) (f .b) (f .kind) (test-range {k = f .kind} e .low) e
-
--- any other flips the flag
-flip-class : (f : Fields) → (f .kind ≡ 4 → ⊥) → (f .kind ≡ 11 → ⊥) → (f .kind ≡ 12 → ⊥) → isTestKind (f .kind) ≡ false → classOf (recordIs f) ≡ aFlip
-flip-class f n4 n11 n12 e = flip-by (f .variant) (f .count) (f .a) (f .b) (f .kind) n4 n11 n12 (decLe (f .kind) 9) e
-
--- ---- the state after the record at its place
-
--- a state of its parts
-abbrev pub state : ℕ → Bool → ℕ → State
-state at flag steps = record { at = at; flag = flag; steps = steps }
-
-module _ (m : Message) (program : List ℕ) (s : State) where
-  -- by its class
-  by-class : (c : Class) (at steps : ℕ) → classOf (decode (drop (s .at) program)) ≡ c
-      → let x = moved c (truthAt m program (s .at)) (s .flag) (s .steps) in
-      at ≡ s .at + recordSize + recordSize * x .0 → steps ≡ x .2 → state at (x .1) steps ≡ stateAfter m program s
+module _ (m : Message) (program : List ℕ) (s : MachineState) where
+  -- it goes by the class of the fields read
+  pub after-class : (f : Fields) → f ≡ fieldsIn (drop (s .at) program) → (x : Class) → classIs (f .kind) ≡ x
+      → stateBy x f (truthAt m program (s .at)) s ≡ stateAfter m program s
   unfolding stateAfter
-  by-class c at steps e f g = rw (f, g, e) refl
+  after-class f e x c =
+      ap (λ (y : Class). stateBy y f (truthAt m program (s .at)) s) (sym c)
+      ∙ ap (λ (g : Fields). stateBy (classIs (g .kind)) g (truthAt m program (s .at)) s) e
 
-  module _ (f : Fields) (e : f ≡ fieldsIn (drop (s .at) program)) where
-    -- the class is that of the fields read
-    of-fields : {c : Class} → classOf (recordIs f) ≡ c → classOf (decode (drop (s .at) program)) ≡ c
-    of-fields h = ap (λ (g : Fields). classOf (recordIs g)) (sym e) ∙ h
-
-    -- an item is passed over without a step
-    pub after-item : f .kind ≡ 4 → state (s .at + 16) (s .flag) (s .steps) ≡ stateAfter m program s
-    unfolding moved
-    after-item k = by-class anItem _ _ (of-fields (item-class f k)) (omega arith) refl
-
-    -- a pass passes over records or none
-    pub after-pass : (o : Operator) (at : ℕ) → f .kind ≡ operatorKind o → at ≡ s .at + 16 + recordSize * pick (open′ o (s .flag)) 0 (f .count)
-        → state at (s .flag) (s .steps + 1) ≡ stateAfter m program s
-    unfolding moved
-    after-pass o at k p = by-class (aPass o (f .count)) at _ (of-fields (pass-class o f k)) p (add-one (s .steps))
-
-    -- a test sets the flag
-    pub after-test : (flag : Bool) → isTestKind (f .kind) ≡ true → flag ≡ truthAt m program (s .at) → state (s .at + 16) flag (s .steps + 1) ≡ stateAfter m program s
-    unfolding moved
-    after-test flag k t = rw t (by-class aTest _ _ (of-fields (test-class f k)) (omega arith) (add-one (s .steps)))
-
-    -- any other flips it
-    pub after-flip : (f .kind ≡ 4 → ⊥) → (f .kind ≡ 11 → ⊥) → (f .kind ≡ 12 → ⊥) → isTestKind (f .kind) ≡ false
-        → state (s .at + 16) (not (s .flag)) (s .steps + 1) ≡ stateAfter m program s
-    unfolding moved
-    after-flip n4 n11 n12 k = by-class aFlip _ _ (of-fields (flip-class f n4 n11 n12 k)) (omega arith) (add-one (s .steps))
-
-  -- a record is at most one step
-  few-steps : (c : Class) (truth flag : Bool) (steps : ℕ) → moved c truth flag steps .2 ≤ suc steps
-  unfolding moved
-  few-steps aTest truth flag steps = omega arith
-  few-steps anItem truth flag steps = omega arith
-  few-steps aFlip truth flag steps = omega arith
-  few-steps (aPass o n) truth flag steps = omega arith
-
-  -- the place is further by a record at least
   pub further : s .at + recordSize ≤ stateAfter m program s .at
   unfolding stateAfter
-  further = omega arith
+  further = far-on (classIs (fieldsIn (drop (s .at) program) .kind)) (fieldsIn (drop (s .at) program)) (truthAt m program (s .at)) s
 
-  -- each step goes over a record at least
-  pub steps-few : recordSize * s .steps ≤ s .at → recordSize * stateAfter m program s .steps ≤ stateAfter m program s .at
+  -- there are no more steps than bytes gone over
+  pub steps-few : s .spent .steps ≤ s .at → stateAfter m program s .spent .steps ≤ stateAfter m program s .at
   unfolding stateAfter
-  steps-few h = omega (arith, few-steps (classOf (decode (drop (s .at) program))) (truthAt m program (s .at)) (s .flag) (s .steps))
+  steps-few h =
+      let f = fieldsIn (drop (s .at) program) in
+      let t = truthAt m program (s .at) in
+      omega (arith, few-steps (classIs (f .kind)) f t s, far-on (classIs (f .kind)) f t s)
 
--- ---- going on from a state
+-- ---- of a program that is the bytes of records
 
-module _ (truth : Record → List Item → Bool) (flag : Bool) (steps : ℕ) where
-  -- passing over k records is going on past their bytes
-  exec-over : (k : ℕ) (l : List ℕ) → exec truth k flag steps (recordsIn l) ≡ exec truth zero flag steps (recordsIn (drop (recordSize * k) l))
-  unfolding exec
-  exec-over zero l = refl
-  exec-over (suc k) l = go (decLe recordSize (length l)) (exec-over k (drop recordSize l))
+module _ (m : Message) (program : List ℕ) {rs : List Record} (r : Right program rs) where
+  -- the records from one on
+  bytes-from : (k : ℕ) → drop (recordSize * k) program ≡ encodeAll (drop k rs)
+  bytes-from k = ap (drop (recordSize * k)) (r .encoded) ∙ encodeAll-drop k rs
+
+  read-from : (k : ℕ) → recordsIn (drop (recordSize * k) program) ≡ drop k rs
+  read-from k = ap recordsIn (bytes-from k) ∙ records-encoded (drop k rs) (every-drop k (r .possible))
+
+  module _ (k : ℕ) (h : k < length rs) where
+    -- the record there
+    abbrev here : Record
+    here = getD rs k flip
+
+    bytes-here : drop (recordSize * k) program ≡ encode here ++ encodeAll (drop (suc k) rs)
+    bytes-here = bytes-from k ∙ encodeAll-at rs k h
+
+    fields-here : fieldsIn (drop (recordSize * k) program) ≡ fieldsOf here
+    fields-here = ap fieldsIn bytes-here ∙ record-read here (every-place (r .possible) flip k h) (encodeAll (drop (suc k) rs))
+
+    decoded-here : decode (drop (recordSize * k) program) ≡ some here
+    decoded-here = ap decode bytes-here ∙ decode-encode here (every-place (r .possible) flip k h) (encodeAll (drop (suc k) rs))
+
+    truth-here : truthAt m program (recordSize * k) ≡ truthOf m (some here) (drop (suc k) rs)
+    unfolding truthAt
+    truth-here =
+        let e : recordSize * k + recordSize ≡ recordSize * suc k = omega arith in
+        rw (decoded-here, e, read-from (suc k)) refl
+
+  -- what the machine comes to from a record on
+  abbrev goes : ℕ → Bool → Spent → Bool × Spent
+  goes k flag spent = exec (recordTruth m) zero flag spent (drop k rs)
+
+  -- the state after a record: past some more, and the machine goes on from there
+  record Next (k : ℕ) (s : MachineState) : Type 0 where
+    over : ℕ
+    flag : Bool
+    spent : Spent
+    is : stateAfter m program s ≡ onFrom s over flag spent
+    on : exec (recordTruth m) over flag spent (drop (suc k) rs) ≡ goes k (s .flag) (s .spent)
+
+  module _ (k : ℕ) (h : k < length rs) (s : MachineState) (at-k : s .at ≡ recordSize * k) where
+    -- by the record there
+    by-record : (x : Record) → getD rs k flip ≡ x → stateAfter m program s ≡ stateBy (classOf x) (fieldsOf x) (truthOf m (some x) (drop (suc k) rs)) s
+    unfolding stateAfter
+    by-record x e =
+        let f : fieldsIn (drop (s .at) program) ≡ fieldsOf x = ap (λ (n : ℕ). fieldsIn (drop n program)) at-k ∙ fields-here k h ∙ ap fieldsOf e in
+        let t : truthAt m program (s .at) ≡ truthOf m (some x) (drop (suc k) rs)
+        = ap (truthAt m program) at-k ∙ truth-here k h ∙ ap (λ (y : Record). truthOf m (some y) (drop (suc k) rs)) e in
+        ap (λ (g : Fields). stateBy (classIs (g .kind)) g (truthAt m program (s .at)) s) f
+        ∙ ap (λ (c : Class). stateBy c (fieldsOf x) (truthAt m program (s .at)) s) (class-kind x)
+        ∙ ap (λ (b : Bool). stateBy (classOf x) (fieldsOf x) b s) t
+
+    machine-at : (x : Record) → getD rs k flip ≡ x → exec (recordTruth m) zero (s .flag) (s .spent) (x ∷ drop (suc k) rs) ≡ goes k (s .flag) (s .spent)
+    machine-at x e = ap (exec (recordTruth m) zero (s .flag) (s .spent)) (ap (λ (y : Record). y ∷ drop (suc k) rs) (sym e) ∙ sym (drop-cons rs k flip h))
+
+    next-by : (x : Record) → getD rs k flip ≡ x → Next k s
+    unfolding exec fieldsOf passedOver
+    next-by (head x) e = record {
+      over = countOf x;
+      flag = recordTruth m x (take (countOf x) (drop (suc k) rs));
+      spent = together (s .spent) oneStep;
+      is = by-record (head x) e ∙ ap (λ (n : ℕ). onFrom s n (recordTruth m x (take (countOf x) (drop (suc k) rs))) (together (s .spent) oneStep)) (head-following x);
+      on = machine-at (head x) e;
+    }
+    next-by (item x) e = record { over = 0; flag = s .flag; spent = s .spent; is = by-record (item x) e; on = machine-at (item x) e }
+    next-by flip e = record { over = 0; flag = not (s .flag); spent = together (s .spent) oneStep; is = by-record flip e; on = machine-at flip e }
+    next-by (pass and n) e = record {
+      over = pick (open′ and (s .flag)) 0 n;
+      flag = s .flag;
+      spent = together (s .spent) oneStep;
+      is = by-record (pass and n) e;
+      on = machine-at (pass and n) e;
+    }
+    next-by (pass or n) e = record {
+      over = pick (open′ or (s .flag)) 0 n;
+      flag = s .flag;
+      spent = together (s .spent) oneStep;
+      is = by-record (pass or n) e;
+      on = machine-at (pass or n) e;
+    }
+
+  -- a state stands at a record, or behind the last, and the machine comes from there to what it comes to
+  pub record Stands (s : MachineState) (o : Bool × Spent) : Type 0 where
+    pub place : ℕ
+    pub at-place : s .at ≡ recordSize * place
+    pub comes : exec (recordTruth m) zero (s .flag) (s .spent) (drop place rs) ≡ o
+
+  -- so does the state after the record there
+  pub stands-next : {s : MachineState} {o : Bool × Spent} → Stands s o → s .at + recordSize ≤ length program → Stands (stateAfter m program s) o
+  stands-next {s} {o} x h = after (next-by (x .place) within s (x .at-place) (getD rs (x .place) flip) refl)
     where
-      go : Dec (recordSize ≤ length l)
-          → exec truth k flag steps (recordsIn (drop recordSize l)) ≡ exec truth zero flag steps (recordsIn (drop (recordSize * k) (drop recordSize l)))
-          → exec truth (suc k) flag steps (recordsIn l) ≡ exec truth zero flag steps (recordsIn (drop (recordSize * suc k) l))
-      go (yes h) ih =
-          let e : recordSize + recordSize * k ≡ recordSize * suc k = omega arith in
-          rw (records-next l h, ← e, ← drop-drop (recordSize * k) recordSize l) ih
-      go (no n) ih =
-          let h : length l < recordSize = lt-of-not-le n in
-          rw (records-none l h, records-none (drop (recordSize * suc k) l) (simp length-drop (omega arith)))
+      within : x .place < length rs
+      within = omega (arith, x .at-place, ap length (r .encoded), encodeAll-length rs)
 
--- what the machine comes to from a state
-abbrev pub onward : Message → List ℕ → State → Bool × ℕ
-onward m program s = exec (recordTruth m) zero (s .flag) (s .steps) (recordsIn (drop (s .at) program))
+      after : Next (x .place) s → Stands (stateAfter m program s) o
+      after n = rw (n .is) (record {
+        place = suc (x .place) + n .over;
+        at-place = omega (arith, x .at-place);
+        comes = ap (exec (recordTruth m) zero (n .flag) (n .spent)) (sym (drop-drop (n .over) (suc (x .place)) rs))
+            ∙ sym (exec-over (recordTruth m) (n .over) (n .flag) (n .spent) (drop (suc (x .place)) rs))
+            ∙ n .on
+            ∙ x .comes;
+      })
 
--- it is what it comes to from the state after the next record
-pub onward-next : (m : Message) (program : List ℕ) (s : State) → s .at + recordSize ≤ length program → onward m program (stateAfter m program s) ≡ onward m program s
-unfolding stateAfter exec truthAt
-onward-next m program s h =
-    let x = movedAt m program s in
-    rw (← drop-drop (recordSize * x .0) (s .at + recordSize) program, ← exec-over (recordTruth m) (x .1) (x .2) (x .0) (drop (s .at + recordSize) program))
-    (rw (records-next (drop (s .at) program) (simp length-drop (omega arith)), drop-drop recordSize (s .at) program) refl)
-
--- and where no whole record is left, it is done
-pub onward-end : (m : Message) (program : List ℕ) (s : State) → length (drop (s .at) program) < recordSize → onward m program s ≡ (s .flag, s .steps)
-unfolding exec
-onward-end m program s h = rw (records-none (drop (s .at) program) h) refl
+  -- and where no record is left, that is its flag and what it spent
+  pub stands-end : {s : MachineState} {o : Bool × Spent} → Stands s o → length (drop (s .at) program) < recordSize → (s .flag, s .spent) ≡ o
+  unfolding exec
+  stands-end {s} x h =
+      let past : length rs ≤ x .place = omega (arith, x .at-place, length-drop (s .at) program, ap length (r .encoded), encodeAll-length rs) in
+      ap (exec (recordTruth m) zero (s .flag) (s .spent)) (sym (drop-of-length-le rs past)) ∙ x .comes

@@ -11,6 +11,7 @@ use Rattle.message.specs.Represents.{Represents}
 use Rattle.message.specs.Refusals.{RefusedWith, number}
 use Rattle.line.specs.Line.{linesOf}
 use Rattle.line.specs.Answer.{shortNumber}
+use Rattle.program.specs.declared.Spent.{Spent}
 use Rattle.program.specs.Machine.{machine}
 use Rattle.program.specs.Validity.{Valid}
 use Rattle.truth.specs.Records.{recordTruth}
@@ -26,41 +27,43 @@ numberOf Count = 21
 numberOf (Record why) = number why
 numberOf Lines = shortNumber
 
-pub data Outcome : Type 0 where
-  -- steps, and the lines
-  kept : ℕ → List ℕ → Outcome
-  -- steps
-  dropped : ℕ → Outcome
-  refused : Refusal → Outcome
+pub data RecordOutcome : Type 0 where
+  -- what was spent, and the lines
+  kept : Spent → List ℕ → RecordOutcome
+  dropped : Spent → RecordOutcome
+  refused : Refusal → RecordOutcome
 
 -- the answer for a program, the bytes of a record, the room for lines and a tally or none
-pub data Answers (program bytes : List ℕ) (room : ℕ) (counting : Option Tally) : Outcome → Type 1 where
+pub data RecordAnswers (program bytes : List ℕ) (room : ℕ) (counting : Option Tally) : RecordOutcome → Type 1 where
   -- 20: program not valid
-  not-valid : (Valid program → ⊥) → Answers program bytes room counting (refused Program)
+  not-valid : (Valid program → ⊥) → RecordAnswers program bytes room counting (refused Program)
   -- 21: judging with a tally that is full
-  full : Valid program → FullTally counting → Answers program bytes room counting (refused Count)
+  full : Valid program → FullTally counting → RecordAnswers program bytes room counting (refused Count)
   -- 11 to 18
   unread : {why : RecordRefusal} → Valid program → (FullTally counting → ⊥) → RefusedWith bytes why
-      → Answers program bytes room counting (refused (Record why))
+      → RecordAnswers program bytes room counting (refused (Record why))
   -- the last flag is the verdict
-  drops : {m : Message} {steps : ℕ} → Valid program → (FullTally counting → ⊥) → Represents m bytes → machine (recordTruth m) program ≡ (false, steps)
-      → Answers program bytes room counting (dropped steps)
+  drops : {m : Message} {spent : Spent} → Valid program → (FullTally counting → ⊥) → Represents m bytes
+      → machine (recordTruth m) program ≡ (false, spent)
+      → RecordAnswers program bytes room counting (dropped spent)
   -- 19: record kept and line buffer too short
-  short : {m : Message} {steps : ℕ} → Valid program → (FullTally counting → ⊥) → Represents m bytes → machine (recordTruth m) program ≡ (true, steps)
-      → room < length (linesOf m) → Answers program bytes room counting (refused Lines)
-  keeps : {m : Message} {steps : ℕ} → Valid program → (FullTally counting → ⊥) → Represents m bytes → machine (recordTruth m) program ≡ (true, steps)
-      → length (linesOf m) ≤ room → Answers program bytes room counting (kept steps (linesOf m))
+  short : {m : Message} {spent : Spent} → Valid program → (FullTally counting → ⊥) → Represents m bytes
+      → machine (recordTruth m) program ≡ (true, spent)
+      → room < length (linesOf m) → RecordAnswers program bytes room counting (refused Lines)
+  keeps : {m : Message} {spent : Spent} → Valid program → (FullTally counting → ⊥) → Represents m bytes
+      → machine (recordTruth m) program ≡ (true, spent)
+      → length (linesOf m) ≤ room → RecordAnswers program bytes room counting (kept spent (linesOf m))
 
 -- the line buffer afterwards: a kept record's lines over its start, else as it was
-abbrev pub linesAfter : Outcome → List ℕ → List ℕ
-linesAfter (kept steps lines) old = lines ++ drop (length lines) old
-linesAfter (dropped steps) old = old
+abbrev pub linesAfter : RecordOutcome → List ℕ → List ℕ
+linesAfter (kept spent lines) old = lines ++ drop (length lines) old
+linesAfter (dropped spent) old = old
 linesAfter (refused why) old = old
 
 -- the tally afterwards: of the refusals only those of a record, 11 to 18, are counted
-abbrev pub tallyAfter : Outcome → Tally → Tally
-tallyAfter (kept steps lines) t = oneKept t
-tallyAfter (dropped steps) t = oneDropped t
+abbrev pub tallyAfter : RecordOutcome → Tally → Tally
+tallyAfter (kept spent lines) t = oneKept t
+tallyAfter (dropped spent) t = oneDropped t
 tallyAfter (refused (Record why)) t = oneRefused t
 tallyAfter (refused Program) t = t
 tallyAfter (refused Count) t = t

@@ -1,23 +1,31 @@
 // Judging: a program over a record.
 ghost use mathlib.Core.Path.{_≡_};
-ghost use mathlib.Core.Bool.{false};
+ghost use mathlib.Core.Bool.{true, false};
 ghost use mathlib.Core.Option.{some, none};
 ghost use Prim.Native.Nat.{_+_, _*_, _≤_};
 ghost use lib.ListN.{length};
-ghost use Rattle.octets.specs.Choice.{pick};
 ghost use Rattle.message.specs.Decode.{messageAt, decodeOf};
+ghost use Rattle.program.specs.Records.{weightLimit};
+ghost use Rattle.program.specs.Spent.{oneStep, together};
 ghost use Rattle.program.specs.Layout.{recordSize};
+ghost use Rattle.program.specs.Checks.{isValid};
 ghost use Rattle.program.specs.Machine.{machine};
 ghost use Rattle.truth.specs.Records.{recordTruth};
 ghost use Rattle.judge.specs.Tallies.{isFull};
 ghost use Rattle.judge.specs.Answers.{numberOf, linesAfter};
 ghost use Rattle.judge.specs.Judging.{decoded};
 ghost use Rattle.judge.specs.Functions.{judgingOf, ourJudge};
-ghost use Rattle.judge.specs.Executing.{unreadOf, tallyOf, Answer, stateAfter};
+ghost use Rattle.judge.specs.Executing.{unreadOf, tallyOf, JudgedAs, passedOver, stateAfter};
 use line::Wrote;
 use message::Decoded;
 use message::Parts;
 use message::Refusal as RecordRefusal;
+use program::Class;
+use program::Fields;
+use program::Spent;
+
+// A count that can't grow.
+const FULL_COUNT: u32 = 4294967295;
 
 // Counts of the records that were judged. A caller in C lends one.
 #[repr(C)]
@@ -37,8 +45,8 @@ pub enum Refusal {
 }
 
 pub enum Judged {
-    Kept { steps: u32, bytes: usize },
-    Dropped { steps: u32 },
+    Kept { spent: Spent, bytes: usize },
+    Dropped { spent: Spent },
     Refused(Refusal),
 }
 
@@ -48,11 +56,11 @@ pub struct Counted {
     pub tally: Tally,
 }
 
-// The machine between two records: the place of the next one, the flag and the steps so far.
-struct State {
+// The machine between two records: the place of the next one, the flag and what is spent so far.
+struct MachineState {
     at: usize,
     flag: bool,
-    steps: u32,
+    spent: Spent,
 }
 
 // The number of a refusal.
@@ -67,69 +75,91 @@ pub fn number_of(refusal: Refusal) -> u32
     }
 }
 
-// The place after a pass: the next record, or past count of them.
-fn landing(next: usize, count: u32, onward: bool) -> usize
-    requires { ⌜ next ≤ 8192 ⌝ }
-    ensures { λ r. ⌜ r ≡ next + recordSize * pick onward 0 count ⌝ }
+// One step more.
+fn stepped(spent: Spent) -> Spent
+    requires { ⌜ spent .steps ≤ recordSize * weightLimit ⌝ }
+    ensures { λ r. ⌜ r ≡ together spent oneStep ⌝ }
 {
-    if onward {
-        return next;
+    Spent {
+        steps: spent.steps + 1,
     }
-    next + 16 * (count as usize)
 }
 
-// The state after the record at its place. An item is no step; what is no test, item or pass flips the flag.
-fn step(program: &[u8], bytes: &[u8], parts: Parts, state: State) -> State
-    requires { ⌜ (state .at + 16 ≤ 8192) × (16 * state .steps ≤ state .at) ⌝ }
+// The place past so many records.
+fn past(next: usize, count: u32) -> usize
+    requires { ⌜ next ≤ recordSize * weightLimit ⌝ }
+    ensures { λ r. ⌜ r ≡ next + recordSize * count ⌝ }
+{
+    next + program::RECORD_SIZE * (count as usize)
+}
+
+// The records that a pass passes over: none where the flag doesn't decide.
+fn passed_over(f: Fields, flag: bool) -> u32
+    ensures { λ r. ⌜ r ≡ passedOver f flag ⌝ }
+{
+    if f.kind == program::AND {
+        if flag {
+            return 0;
+        }
+        return f.count;
+    }
+    if flag {
+        return f.count;
+    }
+    0
+}
+
+// The state after the record at its place. What can't stand there is passed over.
+fn step(program: &[u8], bytes: &[u8], parts: Parts, state: MachineState) -> MachineState
+    requires { ⌜ (state .at + recordSize ≤ recordSize * weightLimit) × (state .spent .steps ≤ state .at) ⌝ }
     ensures { λ r. ⌜ r ≡ stateAfter (messageAt (now (bytes .entry)) parts) (now (program .entry)) state ⌝ }
 {
     let at = state.at;
     let flag = state.flag;
+    let spent = state.spent;
     let f = program::fields_at(program, at);
-    let kind = f.kind;
-    let next = at + 16;
-    let steps = state.steps + 1;
-    if kind == 4 {
-        return State {
+    let next = at + program::RECORD_SIZE;
+    let class = program::class_of(f.kind);
+    match class {
+        Class::Test => MachineState {
+            at: past(next, program::following(f)),
+            flag: truth::holds(program, at, bytes, parts),
+            spent: stepped(spent),
+        },
+        Class::Flip => MachineState {
+            at: next,
+            flag: !flag,
+            spent: stepped(spent),
+        },
+        Class::Pass => MachineState {
+            at: past(next, passed_over(f, flag)),
+            flag,
+            spent: stepped(spent),
+        },
+        Class::Item => MachineState {
             at: next,
             flag,
-            steps: state.steps,
-        };
-    }
-    if kind == 11 {
-        let at = landing(next, f.count, flag);
-        return State { at, flag, steps };
-    }
-    if kind == 12 {
-        let at = landing(next, f.count, !flag);
-        return State { at, flag, steps };
-    }
-    if program::is_test(kind) {
-        let flag = truth::holds(program, at, bytes, parts);
-        return State {
+            spent,
+        },
+        Class::Unknown => MachineState {
             at: next,
             flag,
-            steps,
-        };
-    }
-    State {
-        at: next,
-        flag: !flag,
-        steps,
+            spent,
+        },
     }
 }
 
 // Runs a program over a message. Only the tests that it reaches are run.
-fn execute(program: &[u8], bytes: &[u8], parts: Parts) -> State
-    requires { ⌜ length (now program) ≤ 8192 ⌝ }
-    ensures { λ r. ⌜ (r .flag, r .steps) ≡ machine (recordTruth (messageAt (now (bytes .entry)) parts)) (now (program .entry)) ⌝ }
+fn execute(program: &[u8], bytes: &[u8], parts: Parts) -> MachineState
+    requires { ⌜ isValid (now program) ≡ true ⌝ }
+    ensures { λ r. ⌜ (r .flag, r .spent) ≡ machine (recordTruth (messageAt (now (bytes .entry)) parts)) (now (program .entry)) ⌝ }
 {
-    let mut state = State {
+    let mut state = MachineState {
         at: 0,
         flag: false,
-        steps: 0,
+        spent: Spent { steps: 0 },
     };
-    while 16 <= octets::rest(program, state.at).len() {
+    while program::RECORD_SIZE <= octets::rest(program, state.at).len() {
         state = step(program, bytes, parts, state);
     }
     state
@@ -148,24 +178,28 @@ fn unread(decoded: Decoded) -> Judged
 
 // Judges a record with a program that is valid, and writes the lines of one that is kept.
 fn judge_valid(program: &[u8], bytes: &[u8], lines: &mut [u8]) -> Judged
-    requires { ⌜ length (now program) ≤ 8192 ⌝ }
-    ensures { λ r. ⌜ Answer r (decoded (now (program .entry)) (now (bytes .entry)) (length (now (lines .entry))) (decodeOf (now (bytes .entry)))) ⌝ }
-    ensures { λ r. ⌜ now (lines .exit) ≡ linesAfter (decoded (now (program .entry)) (now (bytes .entry)) (length (now (lines .entry))) (decodeOf (now (bytes .entry)))) (now (lines .entry)) ⌝ }
+    requires { ⌜ isValid (now program) ≡ true ⌝ }
+    ensures { λ r. ⌜ JudgedAs r
+        (decoded (now (program .entry)) (now (bytes .entry)) (length (now (lines .entry))) (decodeOf (now (bytes .entry)))) ⌝ }
+    ensures { λ r. ⌜ now (lines .exit)
+        ≡ linesAfter
+        (decoded (now (program .entry)) (now (bytes .entry)) (length (now (lines .entry))) (decodeOf (now (bytes .entry))))
+        (now (lines .entry)) ⌝ }
 {
     let decoded = message::decode(bytes);
     let Decoded::Read(parts) = decoded else {
         return unread(decoded);
     };
     let ran = execute(program, bytes, parts);
-    let steps = ran.steps;
+    let spent = ran.spent;
     if !ran.flag {
-        return Judged::Dropped { steps };
+        return Judged::Dropped { spent };
     }
     let wrote = line::write(bytes, parts, lines);
     let Wrote::Bytes(size) = wrote else {
         return Judged::Refused(Refusal::Lines);
     };
-    Judged::Kept { steps, bytes: size }
+    Judged::Kept { spent, bytes: size }
 }
 
 // Judges a record with a program.
@@ -182,16 +216,16 @@ pub fn judge(program: &[u8], bytes: &[u8], lines: &mut [u8]) -> Judged
 fn is_full(tally: Tally) -> bool
     ensures { λ r. ⌜ r ≡ isFull tally ⌝ }
 {
-    if tally.seen == 4294967295 {
+    if tally.seen == FULL_COUNT {
         return true;
     }
-    if tally.kept == 4294967295 {
+    if tally.kept == FULL_COUNT {
         return true;
     }
-    if tally.dropped == 4294967295 {
+    if tally.dropped == FULL_COUNT {
         return true;
     }
-    if tally.refused == 4294967295 {
+    if tally.refused == FULL_COUNT {
         return true;
     }
     false
@@ -221,13 +255,13 @@ fn count(judged: Judged, tally: Tally) -> Tally
     ensures { λ r. ⌜ r ≡ tallyOf judged tally ⌝ }
 {
     match judged {
-        Judged::Kept { steps: _, bytes: _ } => Tally {
+        Judged::Kept { spent: _, bytes: _ } => Tally {
             seen: tally.seen + 1,
             kept: tally.kept + 1,
             dropped: tally.dropped,
             refused: tally.refused,
         },
-        Judged::Dropped { steps: _ } => Tally {
+        Judged::Dropped { spent: _ } => Tally {
             seen: tally.seen + 1,
             kept: tally.kept,
             dropped: tally.dropped + 1,
@@ -239,7 +273,8 @@ fn count(judged: Judged, tally: Tally) -> Tally
 
 // Judges a record with a program, and counts it.
 pub fn judge_with(program: &[u8], bytes: &[u8], lines: &mut [u8], tally: Tally) -> Counted
-    ensures { λ r. ⌜ judgingOf (r .judged) (now (lines .exit)) (some (r .tally)) ≡ ourJudge (now (program .entry)) (now (bytes .entry)) (now (lines .entry)) (some tally) ⌝ }
+    ensures { λ r. ⌜ judgingOf (r .judged) (now (lines .exit)) (some (r .tally))
+        ≡ ourJudge (now (program .entry)) (now (bytes .entry)) (now (lines .entry)) (some tally) ⌝ }
 {
     if !program::is_valid(program) {
         return Counted {
@@ -260,7 +295,8 @@ pub fn judge_with(program: &[u8], bytes: &[u8], lines: &mut [u8], tally: Tally) 
 
 // Judges a record with a program, and counts it in the tally that is lent.
 pub fn judge_counted(program: &[u8], bytes: &[u8], lines: &mut [u8], tally: &mut Tally) -> Judged
-    ensures { λ r. ⌜ judgingOf r (now (lines .exit)) (some (now (tally .exit))) ≡ ourJudge (now (program .entry)) (now (bytes .entry)) (now (lines .entry)) (some (now (tally .entry))) ⌝ }
+    ensures { λ r. ⌜ judgingOf r (now (lines .exit)) (some (now (tally .exit)))
+        ≡ ourJudge (now (program .entry)) (now (bytes .entry)) (now (lines .entry)) (some (now (tally .entry))) ⌝ }
 {
     let counted = judge_with(program, bytes, lines, *tally);
     *tally = counted.tally;

@@ -15,7 +15,7 @@ use Rattle.octets.proofs.Bytes.{octets-none, octets-take, octets-drop}
 use Rattle.octets.proofs.Choices.{never, second-chosen}
 use Rattle.octets.proofs.Numbers.{number-lt}
 use Rattle.octets.proofs.Decimal.{digits-length}
-use Rattle.network.specs.declared.Network.{Network}
+use Rattle.network.specs.Networks.{addressBits, Network}
 use Rattle.network.specs.Text.{addressText}
 use Rattle.network.proofs.Texts.{addressText-length}
 use Rattle.aspath.specs.declared.Width.{Width}
@@ -31,7 +31,7 @@ use Rattle.message.specs.declared.Part.{Part}
 use Rattle.message.specs.declared.Parts.{Parts}
 use Rattle.message.specs.Represents.{messageLimit}
 use Rattle.message.specs.Decode.{partOf, networksOf, messageAt}
-use Rattle.line.specs.Text.{following, prefixesText, pathText, optional}
+use Rattle.line.specs.Text.{bar, following, prefixesText, pathText, optional}
 use Rattle.line.specs.Line.{originText, atomicText, widthText, attributeFields, closingFields, lineOf, linesOf}
 use Rattle.line.specs.Answer.{lineRoom, isAmple}
 use Rattle.line.proofs.Lines.{line-cons}
@@ -60,7 +60,7 @@ origin-short n = go (eqb n 0) (eqb n 1)
     go false false = omega arith
 
 -- the fields of a section of attributes, each after a bar
-attributes-short : (width : Width) {s : List ℕ} → Octets s → length (following 124 (attributeFields (attributesOf (widthBytes width) s))) ≤ 3 * length s + 24
+attributes-short : (width : Width) {s : List ℕ} → Octets s → length (following bar (attributeFields (attributesOf (widthBytes width) s))) ≤ 3 * length s + 24
 unfolding following
 attributes-short width {s} o =
     let w = widthBytes width in
@@ -80,7 +80,7 @@ width-short Two = omega arith
 width-short Four = omega arith
 
 -- the fields that end a line, each after a bar
-closing-short : (address asn seconds : ℕ) (width : Width) → address < 2 ^ 32 → length (following 124 (closingFields address asn seconds width)) ≤ 40
+closing-short : (address asn seconds : ℕ) (width : Width) → address < 2 ^ addressBits → length (following bar (closingFields address asn seconds width)) ≤ 40
 unfolding following
 closing-short address asn seconds width h =
     simp length-append (omega (arith, addressText-length address h, digits-length 10 asn, digits-length 10 seconds, width-short width))
@@ -88,7 +88,7 @@ closing-short address asn seconds width h =
 -- ---- a line, and both
 
 -- a line has at most 10 bytes for each byte of its prefixes, 3 for each byte of its attributes, and 67
-line-short : (type : ℕ) (prefixes : List ℕ) {attributes : List ℕ} (address asn seconds : ℕ) (width : Width) → Octets attributes → address < 2 ^ 32
+line-short : (type : ℕ) (prefixes : List ℕ) {attributes : List ℕ} (address asn seconds : ℕ) (width : Width) → Octets attributes → address < 2 ^ addressBits
     → length (lineOf type (networksOf prefixes) (attributesOf (widthBytes width) attributes) (closingFields address asn seconds width))
     ≤ 10 * length prefixes + 3 * length attributes + 67
 line-short type prefixes {attributes} address asn seconds width o h =
@@ -109,7 +109,7 @@ part-length s p = simp length-take (omega arith)
 part-octets : {s : List ℕ} → Octets s → (p : Part) → Octets (partOf s p)
 part-octets o p = octets-take (p .len) (octets-drop (p .start) o)
 
-module _ (s : List ℕ) (p : Parts) (h : p .address < 2 ^ 32) where
+module _ (s : List ℕ) (p : Parts) (h : p .address < 2 ^ addressBits) where
   -- a line of a part of a record
   part-line-short : (type : ℕ) (prefixes : Part) {attributes : List ℕ} → Octets attributes
       → length (lineOf type (networksOf (partOf s prefixes)) (attributesOf (widthBytes (p .width)) attributes) (closingFields (p .address) (p .peer) (p .seconds) (p .width)))
@@ -130,7 +130,7 @@ module _ (s : List ℕ) (p : Parts) (h : p .address < 2 ^ 32) where
       ))
 
 -- the room that a test of the sizes finds ample suffices
-pub lines-fit : {s : List ℕ} → Octets s → (p : Parts) → p .address < 2 ^ 32 → (room : ℕ) → isAmple p room ≡ true → length (linesOf (messageAt s p)) ≤ room
+pub lines-fit : {s : List ℕ} → Octets s → (p : Parts) → p .address < 2 ^ addressBits → (room : ℕ) → isAmple p room ≡ true → length (linesOf (messageAt s p)) ≤ room
 lines-fit {s} o p ha room e =
     let a = second-chosen (ltb room lineRoom) never e in
     let b = second-chosen (ltb messageLimit (p .withdrawn .len)) never (a .1) in

@@ -7,13 +7,13 @@ use mathlib.Core.List.{List, [], _∷_, map}
 use lib.ListN.{length, length-append}
 use Rattle.octets.specs.Lists.{Every, every-none, every-more, total}
 use Rattle.octets.proofs.Rows.{items-cost}
+use Rattle.network.specs.Networks.{addressBits}
 use Rattle.network.specs.Text.{networkText}
 use Rattle.network.specs.Wire.{prefixSize, networkOf}
 use Rattle.network.proofs.Prefixes.{prefix-sizes}
 use Rattle.network.proofs.Texts.{networkText-cost}
-use Rattle.message.specs.Represents.{addressBits}
 use Rattle.message.specs.Decode.{networksOf}
-use Rattle.line.specs.Text.{following, separated, prefixesText}
+use Rattle.line.specs.Text.{space, following, separated, prefixesText}
 
 -- a member's text and a separator
 abbrev pub textCost : {A : Type 0} → (A → List ℕ) → A → ℕ
@@ -45,6 +45,6 @@ pub prefixes-short : (l : List ℕ) → length (prefixesText (networksOf l)) ≤
 prefixes-short l =
     omega (
       arith,
-      separated-length 32 networkText (networksOf l),
+      separated-length space networkText (networksOf l),
       items-cost (prefixSize addressBits) (networkOf addressBits) (prefix-sizes addressBits) (textCost networkText) 10 networkText-cost l,
     )

@@ -6,7 +6,7 @@ use Rattle.octets.specs.Rows.{itemsIn}
 use Rattle.octets.specs.Writes.{Written}
 use Rattle.octets.proofs.Rows.{items-next, items-end}
 use Rattle.octets.proofs.Writes.{both}
-use Rattle.network.specs.declared.Network.{Network}
+use Rattle.network.specs.Networks.{addressBits, Network}
 use Rattle.network.specs.Wire.{prefixSize, networkOf}
 use Rattle.network.proofs.Prefixes.{prefix-sizes}
 use Rattle.aspath.specs.Wire.{widthBytes}
@@ -14,7 +14,7 @@ use Rattle.attributes.specs.Attribute.{Attribute}
 use Rattle.attributes.specs.Bodies.{attributesOf}
 use Rattle.message.specs.declared.Parts.{Parts}
 use Rattle.message.specs.Decode.{partOf, networksOf, messageAt}
-use Rattle.line.specs.Text.{following, separated, prefixesText}
+use Rattle.line.specs.Text.{bar, following, separated, prefixesText}
 use Rattle.line.specs.Line.{attributeFields, closingFields, lineOf, linesOf}
 
 -- texts after others, each after a separator
@@ -35,29 +35,29 @@ module _ (type : ℕ) (attributes : List Attribute) (closing : List (List ℕ)) 
   -- the parts of a line as they are written one after another
   abbrev lineText : List Network → List ℕ
   lineText networks =
-      (type ∷ []) ++ ((124 ∷ []) ++ (prefixesText networks
-      ++ (following 124 (attributeFields attributes) ++ (following 124 closing ++ (10 ∷ [])))))
+      (type ∷ []) ++ ((bar ∷ []) ++ (prefixesText networks
+      ++ (following bar (attributeFields attributes) ++ (following bar closing ++ (10 ∷ [])))))
 
   -- these are its fields with bars between, and LF
   pub line-cons : (n : Network) (more : List Network) → lineOf type (n ∷ more) attributes closing ≡ lineText (n ∷ more)
   unfolding lineOf
   line-cons n more =
       let p = prefixesText (n ∷ more) in
-      let f = following 124 (attributeFields attributes) in
-      let g = following 124 closing in
+      let f = following bar (attributeFields attributes) in
+      let g = following bar closing in
       ap (λ (l : List ℕ). l ++ (10 ∷ []))
-      (separated-two 124 (type ∷ []) p (attributeFields attributes ++ closing)
-      ∙ ap (λ (l : List ℕ). type ∷ 124 ∷ (p ++ l)) (following-append 124 (attributeFields attributes) closing))
-      ∙ ap (λ (l : List ℕ). type ∷ 124 ∷ l) (append-assoc p (f ++ g) (10 ∷ []) ∙ ap (λ (l : List ℕ). p ++ l) (append-assoc f g (10 ∷ [])))
+      (separated-two bar (type ∷ []) p (attributeFields attributes ++ closing)
+      ∙ ap (λ (l : List ℕ). type ∷ bar ∷ (p ++ l)) (following-append bar (attributeFields attributes) closing))
+      ∙ ap (λ (l : List ℕ). type ∷ bar ∷ l) (append-assoc p (f ++ g) (10 ∷ []) ∙ ap (λ (l : List ℕ). p ++ l) (append-assoc f g (10 ∷ [])))
 
   -- where no prefix stands there is no line
-  pub line-none : (prefixes : List ℕ) → prefixSize 32 prefixes ≡ 0 → lineOf type (networksOf prefixes) attributes closing ≡ []
+  pub line-none : (prefixes : List ℕ) → prefixSize addressBits prefixes ≡ 0 → lineOf type (networksOf prefixes) attributes closing ≡ []
   unfolding lineOf
-  line-none prefixes z = rw (items-end (prefixSize 32) (networkOf 32) prefixes z) refl
+  line-none prefixes z = rw (items-end (prefixSize addressBits) (networkOf addressBits) prefixes z) refl
 
   -- where one stands there is
-  pub line-some : (prefixes : List ℕ) → (prefixSize 32 prefixes ≡ 0 → ⊥) → lineOf type (networksOf prefixes) attributes closing ≡ lineText (networksOf prefixes)
-  line-some prefixes n = rw (items-next (prefixSize 32) (networkOf 32) (prefix-sizes 32) prefixes n) (line-cons _ _)
+  pub line-some : (prefixes : List ℕ) → (prefixSize addressBits prefixes ≡ 0 → ⊥) → lineOf type (networksOf prefixes) attributes closing ≡ lineText (networksOf prefixes)
+  line-some prefixes n = rw (items-next (prefixSize addressBits) (networkOf addressBits) (prefix-sizes addressBits) prefixes n) (line-cons _ _)
 
 -- the fields that end the lines of a message's parts
 abbrev closingOf : Parts → List (List ℕ)

@@ -13,7 +13,7 @@ use Rattle.octets.specs.Numbers.{numberAt}
 use Rattle.octets.specs.Decimal.{decimal}
 use Rattle.octets.proofs.Numbers.{number-drop, number-one}
 use Rattle.aspath.specs.Wire.{numbersIn, segmentOf}
-use Rattle.line.specs.Text.{separated, numbersText, segmentText}
+use Rattle.line.specs.Text.{space, separated, numbersText, segmentText}
 
 -- the number read at a place is that at the front of what is left there
 pub number-here : {n w : ℕ} (s : List ℕ) (p : ℕ) → w ≤ 4 → n ≡ pick (leb w 4) (numberAt s p w) 0 → n ≡ numberAt (drop p s) 0 w
@@ -50,6 +50,6 @@ module _ (w : ℕ) (s : List ℕ) (p : ℕ) where
   set-text e = rw (getD-drop p s 0 0, add-zero p, eq-eqb _ _ e, getD-drop p s 1 0, drop-drop 2 p s) refl
 
   -- a sequence at a place
-  pub sequence-text : (getD s p 0 ≡ 1 → ⊥) → segmentText (segmentOf w (drop p s)) ≡ separated 32 (numberTexts w s p)
+  pub sequence-text : (getD s p 0 ≡ 1 → ⊥) → segmentText (segmentOf w (drop p s)) ≡ separated space (numberTexts w s p)
   unfolding segmentOf numbersText
   sequence-text n = rw (getD-drop p s 0 0, add-zero p, ne-eqb _ _ n, getD-drop p s 1 0, drop-drop 2 p s) refl

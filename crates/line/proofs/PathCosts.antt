@@ -14,11 +14,11 @@ use Rattle.octets.proofs.Every.{total-same}
 use Rattle.octets.proofs.Items.{items-every}
 use Rattle.aspath.specs.declared.Width.{Width}
 use Rattle.aspath.specs.declared.Width.the-variants.{Two, Four}
-use Rattle.aspath.specs.Members.{Kind, set, sequence, Segment}
+use Rattle.aspath.specs.Members.{SegmentType, set, sequence, Segment}
 use Rattle.aspath.specs.Wire.{widthBytes, numbersIn, segmentSize, segmentOf, segmentsOf}
 use Rattle.aspath.specs.Encodable.{segmentCost}
 use Rattle.aspath.proofs.SegmentReads.{members-count}
-use Rattle.line.specs.Text.{separated, numbersText, segmentText, pathText}
+use Rattle.line.specs.Text.{space, separated, numbersText, segmentText, pathText}
 use Rattle.line.proofs.Costs.{textCost, separated-length, total-every}
 
 -- a number has with a separator at most 3 bytes of text for each of w bytes
@@ -44,10 +44,10 @@ numbers-short w separator {ns} h =
 
 -- a segment of brief numbers has with a space at most 3 bytes of text for each of its own
 segment-short : (w : ℕ) (s : Segment) → Every (Brief w) (s .numbers) → textCost segmentText s ≤ 3 * segmentCost w s
-segment-short w s h = go (s .kind)
+segment-short w s h = go (s .type)
   where
-    go : (k : Kind) → 1 + length (numbersText k (s .numbers)) ≤ 3 * segmentCost w s
-    go sequence = unfold numbersText in omega (arith, numbers-short w 32 h)
+    go : (k : SegmentType) → 1 + length (numbersText k (s .numbers)) ≤ 3 * segmentCost w s
+    go sequence = unfold numbersText in omega (arith, numbers-short w space h)
     go set = unfold numbersText in simp length-append (omega (arith, numbers-short w 44 h))
 
 -- a path as text has at most 3 bytes for each of its own
@@ -57,7 +57,7 @@ path-short width {l} o =
     let each : (l : List ℕ) → Octets l → Every (Brief w) (segmentOf w l .numbers) = λ l o. unfold segmentOf in numbers-brief width (getD l 1 0) (octets-drop 2 o) in
     omega (
       arith,
-      separated-length 32 segmentText (segmentsOf w l),
+      separated-length space segmentText (segmentsOf w l),
       total-every (textCost segmentText) (segmentCost w) 3 (segment-short w) (items-every (segmentSize w) (segmentOf w) each o),
       members-count w l,
     )

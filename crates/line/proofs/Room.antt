@@ -9,12 +9,13 @@ use lib.ListN.{length, length-drop}
 use borrow.Author.Tests.{eq-eqb, ne-eqb, le-ltb, le-leb}
 use Rattle.octets.specs.Numbers.{Octets}
 use Rattle.octets.proofs.Numbers.{number-lt}
+use Rattle.network.specs.Networks.{addressBits}
 use Rattle.aspath.specs.declared.Width.{Width}
 use Rattle.message.specs.declared.Parts.{Parts}
 use Rattle.message.specs.declared.Decoded.the-variants.{Read}
 use Rattle.message.specs.Message.{Message, update}
 use Rattle.message.specs.Represents.{Represents, messageLimit}
-use Rattle.message.specs.Fields.{widthOf, frameStart, peerAddressField, frame, kindField, bodyStart}
+use Rattle.message.specs.Fields.{widthOf, frameStart, peerAddressField, frame, messageType, bodyStart}
 use Rattle.message.specs.Decode.{otherParts, updateParts, decodeOf}
 use Rattle.message.proofs.Decoding.{partsAt, partsOf, PassesAt, read-passes}
 use Rattle.message.proofs.RecordOctets.{represents-octets}
@@ -26,17 +27,17 @@ use Rattle.line.proofs.Bound.{lines-fit}
 -- the parts of a record that is read are short: the bytes of the sections together, and the peer's address
 record Short (p : Parts) : Type 0 where
   sections : p .withdrawn .len + p .attributes .len + p .announced .len ≤ messageLimit
-  address : p .address < 2 ^ 32
+  address : p .address < 2 ^ addressBits
 
 -- so are those of either kind of message that passes the checks
 parts-short : (w : Width) {s : List ℕ} → Octets s → PassesAt w s → Short (partsAt w s)
 unfolding partsAt updateParts otherParts
-parts-short w {s} o x = go (ℕ-discrete (kindField (frame w s)) update)
+parts-short w {s} o x = go (ℕ-discrete (messageType (frame w s)) update)
   where
-    below : peerAddressField w s < 2 ^ 32
+    below : peerAddressField w s < 2 ^ addressBits
     below = number-lt s _ 4 (o .below)
 
-    go : Dec (kindField (frame w s) ≡ update) → Short (partsAt w s)
+    go : Dec (messageType (frame w s) ≡ update) → Short (partsAt w s)
     go (yes e) = simp (eq-eqb _ _ e) (record {
       sections = omega (
         arith,

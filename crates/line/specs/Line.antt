@@ -4,13 +4,13 @@ use mathlib.Core.List.{List, [], _∷_, _++_}
 use lib.Dec.{eqb}
 use Rattle.octets.specs.Choice.{pick}
 use Rattle.octets.specs.Decimal.{decimal}
-use Rattle.network.specs.declared.Network.{Network}
+use Rattle.network.specs.Networks.{Network}
 use Rattle.network.specs.Text.{addressText}
 use Rattle.aspath.specs.declared.Width.{Width}
 use Rattle.aspath.specs.declared.Width.the-variants.{Two, Four}
 use Rattle.attributes.specs.Attribute.{Attribute, firstOf, askOrigin, askPath, askNextHop, askAtomic}
 use Rattle.message.specs.Message.{Message}
-use Rattle.line.specs.Text.{separated, prefixesText, pathText, optional}
+use Rattle.line.specs.Text.{space, bar, separated, prefixesText, pathText, optional}
 
 -- `i`, `e`, `?`
 unfoldable pub originText : ℕ → List ℕ
@@ -27,7 +27,7 @@ widthText Four = 49 ∷ []
 
 -- the peer: address, space, AS number
 abbrev pub peerText : ℕ → ℕ → List ℕ
-peerText address asn = addressText address ++ ((32 ∷ []) ++ decimal asn)
+peerText address asn = addressText address ++ ((space ∷ []) ++ decimal asn)
 
 -- the fields of a list of attributes
 
@@ -65,7 +65,7 @@ lineFields type prefixes attributes closing = (type ∷ []) ∷ prefixesText pre
 -- a line: its fields with bars between, and LF; none where there are no prefixes
 unfoldable pub lineOf : ℕ → List Network → List Attribute → List (List ℕ) → List ℕ
 lineOf type [] attributes closing = []
-lineOf type (n ∷ more) attributes closing = separated 124 (lineFields type (n ∷ more) attributes closing) ++ (10 ∷ [])
+lineOf type (n ∷ more) attributes closing = separated bar (lineFields type (n ∷ more) attributes closing) ++ (10 ∷ [])
 
 abbrev closingOf : Message → List (List ℕ)
 closingOf m = closingFields (m .peerAddress) (m .peerAs) (m .seconds) (m .width)

@@ -7,14 +7,18 @@ ghost use Rattle.octets.specs.Writes.{Written};
 ghost use Rattle.octets.specs.Decimal.{decimal};
 ghost use Rattle.aspath.specs.Wire.{widthBytes, segmentSize, segmentOf, numbersIn, segmentsOf};
 ghost use Rattle.attributes.specs.Bodies.{attributesOf};
-ghost use Rattle.message.specs.Decode.{partOf, networksOf, messageAt};
-ghost use Rattle.line.specs.Text.{separated, following, prefixesText, segmentText, pathText};
-ghost use Rattle.line.specs.Line.{pathField, nextHopField, originField, atomicField, originText, widthText, attributeFields, closingFields, lineOf, linesOf};
+ghost use Rattle.message.specs.Decode.{networksOf, messageAt};
+ghost use Rattle.line.specs.Text.{bar, separated, following, prefixesText, segmentText, pathText};
+ghost use Rattle.line.specs.Line.{pathField, nextHopField, originField, atomicField, originText, widthText, attributeFields};
+ghost use Rattle.line.specs.Line.{closingFields, lineOf, linesOf};
 ghost use Rattle.line.specs.Answer.{isAmple, writingOf, writing};
 use aspath::Width;
 use attributes::Found;
-use message::Part;
+use message::MESSAGE_LIMIT;
 use message::Parts;
+
+// The room that suffices for the lines of every readable record.
+pub const LINE_ROOM: usize = 65536;
 
 // The bytes that the lines take, or that the buffer is too short for them.
 pub enum Wrote {
@@ -55,7 +59,9 @@ fn put_numbers(
     separator: u8,
 ) -> usize
     requires { ⌜ start + count * widthBytes width ≤ length (now s) ⌝ }
-    ensures { λ r. ⌜ Written (now (out .entry)) at (separated separator (map decimal (numbersIn (widthBytes width) count (drop start (now (s .entry)))))) (now (out .exit)) r ⌝ }
+    ensures { λ r. ⌜ Written (now (out .entry)) at
+        (separated separator (map decimal (numbersIn (widthBytes width) count (drop start (now (s .entry))))))
+        (now (out .exit)) r ⌝ }
 {
     if count == 0 {
         return at;
@@ -111,10 +117,12 @@ fn put_path(out: &mut [u8], at: usize, s: &[u8], width: Width) -> usize
 
 // AS_PATH after a bar.
 fn put_path_field(out: &mut [u8], at: usize, s: &[u8], width: Width) -> usize
-    ensures { λ r. ⌜ Written (now (out .entry)) at ((124 ∷ []) ++ pathField (attributesOf (widthBytes width) (now (s .entry)))) (now (out .exit)) r ⌝ }
+    ensures { λ r. ⌜ Written (now (out .entry)) at
+        ((bar ∷ []) ++ pathField (attributesOf (widthBytes width) (now (s .entry))))
+        (now (out .exit)) r ⌝ }
 {
     let place = octets::put(out, at, b'|');
-    let found = attributes::find(s, 2);
+    let found = attributes::find(s, attributes::AS_PATH);
     let Found::At { start, len } = found else {
         return place;
     };
@@ -123,17 +131,19 @@ fn put_path_field(out: &mut [u8], at: usize, s: &[u8], width: Width) -> usize
 
 // NEXT_HOP after a bar.
 fn put_next_hop_field(out: &mut [u8], at: usize, s: &[u8], width: Width) -> usize
-    ensures { λ r. ⌜ Written (now (out .entry)) at ((124 ∷ []) ++ nextHopField (attributesOf (widthBytes width) (now (s .entry)))) (now (out .exit)) r ⌝ }
+    ensures { λ r. ⌜ Written (now (out .entry)) at
+        ((bar ∷ []) ++ nextHopField (attributesOf (widthBytes width) (now (s .entry))))
+        (now (out .exit)) r ⌝ }
 {
     let place = octets::put(out, at, b'|');
-    let found = attributes::find(s, 3);
+    let found = attributes::find(s, attributes::NEXT_HOP);
     let Found::At { start, len } = found else {
         return place;
     };
     network::put_address(
         out,
         place,
-        octets::number(octets::part(s, start, len), 0, 4),
+        octets::number(octets::part(s, start, len), 0, attributes::NEXT_HOP_SIZE),
     )
 }
 
@@ -142,34 +152,38 @@ fn origin_letter(n: u32) -> u8
     ensures { λ r. ⌜ (r ∷ []) ≡ originText n ⌝ }
 {
     match n {
-        0 => b'i',
-        1 => b'e',
+        attributes::IGP => b'i',
+        attributes::EGP => b'e',
         _ => b'?',
     }
 }
 
 // ORIGIN after a bar.
 fn put_origin_field(out: &mut [u8], at: usize, s: &[u8], width: Width) -> usize
-    ensures { λ r. ⌜ Written (now (out .entry)) at ((124 ∷ []) ++ originField (attributesOf (widthBytes width) (now (s .entry)))) (now (out .exit)) r ⌝ }
+    ensures { λ r. ⌜ Written (now (out .entry)) at
+        ((bar ∷ []) ++ originField (attributesOf (widthBytes width) (now (s .entry))))
+        (now (out .exit)) r ⌝ }
 {
     let place = octets::put(out, at, b'|');
-    let found = attributes::find(s, 1);
+    let found = attributes::find(s, attributes::ORIGIN);
     let Found::At { start, len } = found else {
         return place;
     };
     octets::put(
         out,
         place,
-        origin_letter(octets::number(octets::part(s, start, len), 0, 1)),
+        origin_letter(octets::number(octets::part(s, start, len), 0, attributes::ORIGIN_SIZE)),
     )
 }
 
 // ATOMIC_AGGREGATE after a bar.
 fn put_atomic_field(out: &mut [u8], at: usize, s: &[u8], width: Width) -> usize
-    ensures { λ r. ⌜ Written (now (out .entry)) at ((124 ∷ []) ++ atomicField (attributesOf (widthBytes width) (now (s .entry)))) (now (out .exit)) r ⌝ }
+    ensures { λ r. ⌜ Written (now (out .entry)) at
+        ((bar ∷ []) ++ atomicField (attributesOf (widthBytes width) (now (s .entry))))
+        (now (out .exit)) r ⌝ }
 {
     let place = octets::put(out, at, b'|');
-    let found = attributes::find(s, 6);
+    let found = attributes::find(s, attributes::ATOMIC_AGGREGATE);
     let Found::At { start: _, len: _ } = found else {
         return place;
     };
@@ -179,7 +193,9 @@ fn put_atomic_field(out: &mut [u8], at: usize, s: &[u8], width: Width) -> usize
 
 // The fields of the attributes, each after a bar: AGGREGATOR and COMMUNITIES stay empty.
 fn put_attributes(out: &mut [u8], at: usize, s: &[u8], width: Width) -> usize
-    ensures { λ r. ⌜ Written (now (out .entry)) at (following 124 (attributeFields (attributesOf (widthBytes width) (now (s .entry))))) (now (out .exit)) r ⌝ }
+    ensures { λ r. ⌜ Written (now (out .entry)) at
+        (following bar (attributeFields (attributesOf (widthBytes width) (now (s .entry)))))
+        (now (out .exit)) r ⌝ }
 {
     let place = put_path_field(out, at, s, width);
     let place = put_next_hop_field(out, place, s, width);
@@ -208,7 +224,7 @@ fn put_closing(
     seconds: u32,
     width: Width,
 ) -> usize
-    ensures { λ r. ⌜ Written (now (out .entry)) at (following 124 (closingFields address asn seconds width)) (now (out .exit)) r ⌝ }
+    ensures { λ r. ⌜ Written (now (out .entry)) at (following bar (closingFields address asn seconds width)) (now (out .exit)) r ⌝ }
 {
     let place = octets::put(out, at, b'|');
     let place = network::put_address(out, place, address);
@@ -224,13 +240,13 @@ fn put_closing(
 fn put_line(
     out: &mut [u8],
     at: usize,
-    kind: u8,
+    sign: u8,
     prefixes: &[u8],
     attributes: &[u8],
     parts: Parts,
 ) -> usize
     ensures { λ r. ⌜ Written (now (out .entry)) at
-        (lineOf kind (networksOf (now (prefixes .entry))) (attributesOf (widthBytes (parts .width)) (now (attributes .entry)))
+        (lineOf sign (networksOf (now (prefixes .entry))) (attributesOf (widthBytes (parts .width)) (now (attributes .entry)))
         (closingFields (parts .address) (parts .peer) (parts .seconds) (parts .width)))
         (now (out .exit)) r ⌝ }
 {
@@ -238,7 +254,7 @@ fn put_line(
         return at;
     }
     let width = parts.width;
-    let place = octets::put(out, at, kind);
+    let place = octets::put(out, at, sign);
     let place = octets::put(out, place, b'|');
     let place = put_prefixes(out, place, prefixes);
     let place = put_attributes(out, place, attributes, width);
@@ -246,45 +262,38 @@ fn put_line(
     octets::put(out, place, b'\n')
 }
 
-// The bytes of a part.
-fn part_of(s: &[u8], part: Part) -> &[u8]
-    ensures { λ r. ⌜ now r ≡ partOf (now (s .entry)) part ⌝ }
-{
-    octets::part(s, part.start, part.len)
-}
-
 // Both lines. The `-` line has no attributes.
 fn put_lines(out: &mut [u8], at: usize, s: &[u8], parts: Parts) -> usize
     ensures { λ r. ⌜ Written (now (out .entry)) at (linesOf (messageAt (now (s .entry)) parts)) (now (out .exit)) r ⌝ }
 {
-    let announced = part_of(s, parts.announced);
-    let attributes = part_of(s, parts.attributes);
-    let withdrawn = part_of(s, parts.withdrawn);
+    let announced = message::part_of(s, parts.announced);
+    let attributes = message::part_of(s, parts.attributes);
+    let withdrawn = message::part_of(s, parts.withdrawn);
     let none = octets::part(s, 0, 0);
     let place = put_line(out, at, b'+', announced, attributes, parts);
     put_line(out, place, b'-', withdrawn, none, parts)
 }
 
-// Whether the room suffices by the sizes of the sections alone: it does for every readable record and 65,536 bytes.
+// Whether the room suffices by the sizes of the sections alone: it does for every readable record and LINE_ROOM.
 fn ample(parts: Parts, room: usize) -> bool
     ensures { λ r. ⌜ r ≡ isAmple parts room ⌝ }
 {
     let withdrawn = parts.withdrawn.len;
     let attributes = parts.attributes.len;
     let announced = parts.announced.len;
-    if room < 65536 {
+    if room < LINE_ROOM {
         return false;
     }
-    if 4096 < withdrawn {
+    if MESSAGE_LIMIT < withdrawn {
         return false;
     }
-    if 4096 < attributes {
+    if MESSAGE_LIMIT < attributes {
         return false;
     }
-    if 4096 < announced {
+    if MESSAGE_LIMIT < announced {
         return false;
     }
-    withdrawn + attributes + announced <= 4096
+    withdrawn + attributes + announced <= MESSAGE_LIMIT
 }
 
 // The lines of a message at the start of a buffer. One that is too short for both stays as it is.

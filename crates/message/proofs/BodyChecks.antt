@@ -10,7 +10,7 @@ use Rattle.octets.specs.Numbers.{Octets}
 use Rattle.octets.specs.Rows.{Joined, whole}
 use Rattle.octets.proofs.Choices.{either, each}
 use Rattle.octets.proofs.Rows.{Reads, joined-whole, joined-items, whole-joined}
-use Rattle.network.specs.declared.Network.{Network}
+use Rattle.network.specs.Networks.{addressBits, Network}
 use Rattle.network.specs.Wire.{PrefixBytes, prefixSize}
 use Rattle.network.proofs.Prefixes.{prefix-reads}
 use Rattle.aspath.specs.declared.Width.{Width}
@@ -19,7 +19,6 @@ use Rattle.attributes.specs.Wire.{attributeSize, rawsOf}
 use Rattle.attributes.proofs.RawReads.{raw-reads}
 use Rattle.attributes.proofs.MeaningCodes.{twice-sound, twice-complete}
 use Rattle.attributes.proofs.MeaningBodies.{raws-octets, wrong-sound, wrong-complete}
-use Rattle.message.specs.Represents.{addressBits}
 use Rattle.message.specs.Fields.{withdrawnSize}
 use Rattle.message.specs.Refusals.{WrongSections, WrongAttributes, WrongBody, WrongPrefix}
 use Rattle.message.specs.Decode.{wrongSections, wrongAttributes, wrongBody, wrongPrefix}

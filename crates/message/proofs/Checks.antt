@@ -11,6 +11,7 @@ use borrow.Author.Tests.{ltb-false, le-ltb, eqb-true, eq-eqb, ne-eqb, not-false}
 use Rattle.octets.specs.Choice.{pick}
 use Rattle.octets.specs.Rows.{whole}
 use Rattle.octets.proofs.Choices.{never, each}
+use Rattle.network.specs.Networks.{addressBits}
 use Rattle.network.specs.Wire.{prefixSize}
 use Rattle.aspath.specs.declared.Width.{Width}
 use Rattle.aspath.specs.declared.Width.the-variants.{Two, Four}
@@ -18,11 +19,11 @@ use Rattle.aspath.specs.Wire.{widthBytes}
 use Rattle.attributes.specs.Wire.{attributeSize, rawsOf, codes}
 use Rattle.attributes.specs.Codes.{distinct}
 use Rattle.attributes.specs.Bodies.{allRight}
-use Rattle.message.specs.Represents.{addressBits, messageLimit, markerSize, frameHeader, ipv4, bgp4mp, subtypeOf}
-use Rattle.octets.specs.Header.{headerSize, typeField, subtypeField, lengthField}
+use Rattle.message.specs.Represents.{messageLimit, markerSize, frameHeader, ipv4, bgp4mp, subtypeOf}
+use Rattle.header.specs.Header.{headerSize, typeField, subtypeField, lengthField}
 use Rattle.message.specs.Fields.{widthOf, frameStart, familyField, frameLength, withdrawnSize, attributesSize, withdrawnIn, attributesIn, announcedIn}
 use Rattle.message.specs.Refusals.{recordLimit}
-use Rattle.message.specs.Decode.{wrongSize, wrongKind, wrongPeer, ones, wrongFrame, wrongSections, wrongAttributes, wrongBody, wrongPrefix}
+use Rattle.message.specs.Decode.{wrongSize, wrongMrtType, wrongPeer, ones, wrongFrame, wrongSections, wrongAttributes, wrongBody, wrongPrefix}
 use Rattle.message.proofs.Ones.{ones-sound, ones-complete}
 
 -- where neither of two tests may hold, each fails
@@ -56,26 +57,26 @@ pub size-complete : {s : List ℕ} → RightSize s → wrongSize s ≡ false
 unfolding wrongSize
 size-complete x = simp (le-ltb _ _ (x .long), le-ltb _ _ (x .limited), eq-eqb _ _ (x .even))
 
--- ---- the kind
+-- ---- the MRT type
 
 -- the type is BGP4MP, and the subtype is that of the width
-pub record RightKind (s : List ℕ) : Type 0 where
+pub record RightMrtType (s : List ℕ) : Type 0 where
   pub type : typeField s ≡ bgp4mp
   pub subtype : subtypeField s ≡ subtypeOf (widthOf s)
 
 -- this holds where the check passes
-pub kind-sound : (s : List ℕ) → wrongKind s ≡ false → RightKind s
-unfolding wrongKind
-kind-sound s e = let x = first-only (eqb (typeField s) bgp4mp) _ e in record { type = eqb-true _ _ (x .0); subtype = go (ℕ-discrete (subtypeField s) (subtypeOf Two)) (x .1) }
+pub mrt-type-sound : (s : List ℕ) → wrongMrtType s ≡ false → RightMrtType s
+unfolding wrongMrtType
+mrt-type-sound s e = let x = first-only (eqb (typeField s) bgp4mp) _ e in record { type = eqb-true _ _ (x .0); subtype = go (ℕ-discrete (subtypeField s) (subtypeOf Two)) (x .1) }
   where
     go : Dec (subtypeField s ≡ subtypeOf Two) → pick (eqb (subtypeField s) (subtypeOf Two)) false (not (eqb (subtypeField s) (subtypeOf Four))) ≡ false → subtypeField s ≡ subtypeOf (widthOf s)
     go (yes h) f = simp (eq-eqb _ _ h) h
     go (no h) f = simp (ne-eqb _ _ h) (eqb-true _ _ (not-false _ (simp (ne-eqb _ _ h) at f)))
 
 -- the check passes where this holds
-pub kind-complete : {s : List ℕ} → RightKind s → wrongKind s ≡ false
-unfolding wrongKind
-kind-complete {s} x = simp (eq-eqb _ _ (x .type)) (go (ℕ-discrete (subtypeField s) (subtypeOf Two)))
+pub mrt-type-complete : {s : List ℕ} → RightMrtType s → wrongMrtType s ≡ false
+unfolding wrongMrtType
+mrt-type-complete {s} x = simp (eq-eqb _ _ (x .type)) (go (ℕ-discrete (subtypeField s) (subtypeOf Two)))
   where
     go : Dec (subtypeField s ≡ subtypeOf Two) → pick (eqb (subtypeField s) (subtypeOf Two)) false (not (eqb (subtypeField s) (subtypeOf Four))) ≡ false
     go (yes h) = simp (eq-eqb _ _ h)

@@ -14,13 +14,13 @@ use Rattle.message.specs.declared.Refusal.{Refusal}
 use Rattle.message.specs.declared.Decoded.{Decoded}
 use Rattle.message.specs.declared.Decoded.the-variants.{Read, Refused}
 use Rattle.message.specs.Message.{update}
-use Rattle.message.specs.Fields.{widthOf, frame, kindField, body, withdrawnIn, attributesIn, announcedIn}
-use Rattle.message.specs.Decode.{wrongSize, wrongKind, wrongPeer, wrongFrame, wrongSections, wrongAttributes, wrongBody, wrongPrefix, otherParts, updateParts, updateOf, messageOf, decodeOf}
-use Rattle.message.proofs.Checks.{RightSize, RightKind, RightPeer, RightFrame, RightUpdate, size-sound, size-complete, kind-sound, kind-complete, peer-sound, peer-complete, frame-sound, frame-complete, sections-sound, sections-complete, attributes-sound, attributes-complete, body-sound, body-complete, prefix-sound, prefix-complete}
+use Rattle.message.specs.Fields.{widthOf, frame, messageType, body, withdrawnIn, attributesIn, announcedIn}
+use Rattle.message.specs.Decode.{wrongSize, wrongMrtType, wrongPeer, wrongFrame, wrongSections, wrongAttributes, wrongBody, wrongPrefix, otherParts, updateParts, updateOf, messageOf, decodeOf}
+use Rattle.message.proofs.Checks.{RightSize, RightMrtType, RightPeer, RightFrame, RightUpdate, size-sound, size-complete, mrt-type-sound, mrt-type-complete, peer-sound, peer-complete, frame-sound, frame-complete, sections-sound, sections-complete, attributes-sound, attributes-complete, body-sound, body-complete, prefix-sound, prefix-complete}
 
 -- the parts of a record that is read, at a width: by its type, those of an UPDATE or of another message
 unfoldable pub partsAt : Width → List ℕ → Parts
-partsAt w s = pick (eqb (kindField (frame w s)) update) (updateParts w s) (otherParts w s)
+partsAt w s = pick (eqb (messageType (frame w s)) update) (updateParts w s) (otherParts w s)
 
 -- at the width that its subtype tells
 abbrev pub partsOf : List ℕ → Parts
@@ -30,12 +30,12 @@ partsOf s = partsAt (widthOf s) s
 pub record PassesAt (w : Width) (s : List ℕ) : Type 0 where
   pub peer : RightPeer w s
   pub framed : RightFrame (frame w s)
-  pub updated : kindField (frame w s) ≡ update → RightUpdate w (body w s)
+  pub updated : messageType (frame w s) ≡ update → RightUpdate w (body w s)
 
 -- every check passes
 pub record Passes (s : List ℕ) : Type 0 where
   pub size : RightSize s
-  pub kind : RightKind s
+  pub mrt-type : RightMrtType s
   pub rest : PassesAt (widthOf s) s
 
 -- ---- where the checks pass, the record is read
@@ -53,17 +53,17 @@ update-read {w} s u =
 
 message-read : {w : Width} {s : List ℕ} → PassesAt w s → messageOf w s ≡ Read (partsAt w s)
 unfolding messageOf partsAt
-message-read {w} {s} x = simp (peer-complete (x .peer), frame-complete (x .framed)) (go (ℕ-discrete (kindField (frame w s)) update))
+message-read {w} {s} x = simp (peer-complete (x .peer), frame-complete (x .framed)) (go (ℕ-discrete (messageType (frame w s)) update))
   where
-    go : Dec (kindField (frame w s) ≡ update)
-        → pick (eqb (kindField (frame w s)) update) (updateOf w s) (Read (otherParts w s)) ≡ Read (pick (eqb (kindField (frame w s)) update) (updateParts w s) (otherParts w s))
+    go : Dec (messageType (frame w s) ≡ update)
+        → pick (eqb (messageType (frame w s)) update) (updateOf w s) (Read (otherParts w s)) ≡ Read (pick (eqb (messageType (frame w s)) update) (updateParts w s) (otherParts w s))
     go (yes e) = simp (eq-eqb _ _ e) (update-read s (x .updated e))
     go (no n) = simp (ne-eqb _ _ n)
 
 -- a record that passes every check is read
 pub passes-read : {s : List ℕ} → Passes s → decodeOf s ≡ Read (partsOf s)
 unfolding decodeOf
-passes-read x = simp (size-complete (x .size), kind-complete (x .kind)) (message-read (x .rest))
+passes-read x = simp (size-complete (x .size), mrt-type-complete (x .mrt-type)) (message-read (x .rest))
 
 -- ---- a record that is read passes the checks
 
@@ -98,11 +98,11 @@ unfolding messageOf partsAt
 read-message w s {p} e =
     let x = passed (wrongPeer w s) _ e in
     let y = passed (wrongFrame (frame w s)) _ (x .1) in
-    go (peer-sound w s (x .0)) (frame-sound (frame w s) (y .0)) (ℕ-discrete (kindField (frame w s)) update) (y .1)
+    go (peer-sound w s (x .0)) (frame-sound (frame w s) (y .0)) (ℕ-discrete (messageType (frame w s)) update) (y .1)
   where
-    go : RightPeer w s → RightFrame (frame w s) → Dec (kindField (frame w s) ≡ update)
-        → pick (eqb (kindField (frame w s)) update) (updateOf w s) (Read (otherParts w s)) ≡ Read p
-        → PassesAt w s × (p ≡ pick (eqb (kindField (frame w s)) update) (updateParts w s) (otherParts w s))
+    go : RightPeer w s → RightFrame (frame w s) → Dec (messageType (frame w s) ≡ update)
+        → pick (eqb (messageType (frame w s)) update) (updateOf w s) (Read (otherParts w s)) ≡ Read p
+        → PassesAt w s × (p ≡ pick (eqb (messageType (frame w s)) update) (updateParts w s) (otherParts w s))
     go a b (yes k) f =
         let u = read-update w s (simp (eq-eqb _ _ k) at f) in
         (record { peer = a; framed = b; updated = λ h. u .0 }, simp (eq-eqb _ _ k) (u .1))
@@ -115,6 +115,6 @@ pub read-passes : (s : List ℕ) {p : Parts} → decodeOf s ≡ Read p → Passe
 unfolding decodeOf
 read-passes s e =
     let x = passed (wrongSize s) _ e in
-    let y = passed (wrongKind s) _ (x .1) in
+    let y = passed (wrongMrtType s) _ (x .1) in
     let z = read-message (widthOf s) s (y .1) in
-    (record { size = size-sound s (x .0); kind = kind-sound s (y .0); rest = z .0 }, z .1)
+    (record { size = size-sound s (x .0); mrt-type = mrt-type-sound s (y .0); rest = z .0 }, z .1)

@@ -10,7 +10,7 @@ use Rattle.octets.specs.Rows.{Joined}
 use Rattle.octets.proofs.Bytes.{octets-none}
 use Rattle.octets.proofs.Fields.{field-below}
 use Rattle.octets.proofs.Encode.{bytes-length, bytes-octets, bytes-field}
-use Rattle.network.specs.declared.Network.{Network}
+use Rattle.network.specs.Networks.{addressBits, Network}
 use Rattle.network.specs.Wire.{PrefixBytes}
 use Rattle.network.proofs.Prefixes.{prefix-exists, prefix-length, prefix-below, prefix-clear}
 use Rattle.aspath.specs.declared.Width.{Width}
@@ -20,7 +20,7 @@ use Rattle.octets.proofs.Items.{joined-length, joined-most, joined-every, sized
 use Rattle.attributes.specs.Encodable.{attributeCost}
 use Rattle.attributes.proofs.AttributesExist.{attributes-exist, attribute-encodable, attribute-least}
 use Rattle.message.specs.Message.{Message}
-use Rattle.message.specs.Represents.{addressBits, messageLimit, markerSize, frameHeader, ipv4, bgp4mp, subtypeOf, UpdateBytes, BodyBytes, is-update, is-other, FrameBytes, PeerBytes, Represents}
+use Rattle.message.specs.Represents.{messageLimit, markerSize, frameHeader, ipv4, bgp4mp, subtypeOf, UpdateBytes, BodyBytes, is-update, is-other, FrameBytes, PeerBytes, Represents}
 use Rattle.message.specs.Allowed.{AllowedNetwork, networkCost, AllowedUpdate, AllowedBody, for-update, for-other, Allowed}
 use Rattle.message.proofs.RecordFields.{width-most}
 
@@ -76,18 +76,18 @@ frame-exists {m} h =
     let b = body-exists (h .body) in
     let n = frameHeader + length (b .0) in
     let size = bytesOf 2 n in
-    let kind = bytesOf 1 (m .kind) in
-    let l = replicate markerSize 255 ++ (size ++ (kind ++ b .0)) in
-    let long : n ≡ length l = simp length-append (omega (arith, bytes-length 2 n, bytes-length 1 (m .kind))) in (
+    let type = bytesOf 1 (m .type) in
+    let l = replicate markerSize 255 ++ (size ++ (type ++ b .0)) in
+    let long : n ≡ length l = simp length-append (omega (arith, bytes-length 2 n, bytes-length 1 (m .type))) in (
       l,
       record {
         size = size;
-        kind = kind;
+        type = type;
         body = b .0;
         joined = refl;
         sized = same-field 2 (omega (arith, b .2)) long;
         limited = omega (arith, b .2);
-        kind-is = bytes-field 1 (m .kind) (h .kind);
+        type-is = bytes-field 1 (m .type) (h .type);
         body-is = b .1;
       },
     )
@@ -185,7 +185,7 @@ body-allowed (is-other n x) h =
 
 -- the body fits where the frame does
 frame-fits : {m : Message} {l : List ℕ} (f : FrameBytes m l) → frameHeader + length (f .body) ≤ messageLimit
-frame-fits f = let e = ap length (f .joined) in omega (arith, simp length-append at e, f .sized .long, f .kind-is .long, f .limited)
+frame-fits f = let e = ap length (f .joined) in omega (arith, simp length-append at e, f .sized .long, f .type-is .long, f .limited)
 
 -- a message that has a record is allowed
 pub represents-allowed : {m : Message} {s : List ℕ} → Represents m s → Allowed m
@@ -196,6 +196,6 @@ represents-allowed r =
       seconds = field-below (r .seconds-is);
       peerAs = field-below (p .peerAs-is);
       peerAddress = field-below (p .peerAddress-is);
-      kind = field-below (f .kind-is);
+      type = field-below (f .type-is);
       body = body-allowed (f .body-is) (frame-fits f);
     }

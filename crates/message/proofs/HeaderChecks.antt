@@ -10,8 +10,8 @@ use Rattle.aspath.specs.declared.Width.{Width}
 use Rattle.aspath.specs.declared.Width.the-variants.{Two, Four}
 use Rattle.message.specs.Represents.{markerSize, subtypeOf}
 use Rattle.message.specs.Fields.{widthOf}
-use Rattle.message.specs.Refusals.{WrongSize, WrongKind, WrongPeer, WrongFrame}
-use Rattle.message.specs.Decode.{wrongSize, wrongKind, wrongPeer, ones, wrongFrame}
+use Rattle.message.specs.Refusals.{WrongSize, WrongMrtType, WrongPeer, WrongFrame}
+use Rattle.message.specs.Decode.{wrongSize, wrongMrtType, wrongPeer, ones, wrongFrame}
 use Rattle.message.proofs.Ones.{ones-sound, ones-complete}
 use Rattle.message.proofs.Deciding.{Decides, decides-false, decides-not, settled, unless, without}
 
@@ -37,19 +37,19 @@ neither-width two four Two = two
 neither-width two four Four = four
 
 -- row 12
-pub kind-decides : (s : List ℕ) → Decides (wrongKind s) (WrongKind s)
-unfolding wrongKind
-kind-decides s = record { sound = sound; complete = complete }
+pub mrt-type-decides : (s : List ℕ) → Decides (wrongMrtType s) (WrongMrtType s)
+unfolding wrongMrtType
+mrt-type-decides s = record { sound = sound; complete = complete }
   where
-    sound : wrongKind s ≡ true → WrongKind s
+    sound : wrongMrtType s ≡ true → WrongMrtType s
     sound e =
         unless _ _ e
-        (λ h. WrongKind.other-type (eqb-false _ _ h))
-        (λ f. let b = without _ _ f in WrongKind.other-subtype (neither-width (eqb-false _ _ (b .0)) (eqb-false _ _ (not-true _ (b .1)))))
+        (λ h. WrongMrtType.other-type (eqb-false _ _ h))
+        (λ f. let b = without _ _ f in WrongMrtType.other-subtype (neither-width (eqb-false _ _ (b .0)) (eqb-false _ _ (not-true _ (b .1)))))
 
-    complete : WrongKind s → wrongKind s ≡ true
-    complete (WrongKind.other-type n) = simp (ne-eqb _ _ n)
-    complete (WrongKind.other-subtype n) = simp (ne-eqb _ _ (n Two), ne-eqb _ _ (n Four), settled)
+    complete : WrongMrtType s → wrongMrtType s ≡ true
+    complete (WrongMrtType.other-type n) = simp (ne-eqb _ _ n)
+    complete (WrongMrtType.other-subtype n) = simp (ne-eqb _ _ (n Two), ne-eqb _ _ (n Four), settled)
 
 -- row 13
 pub peer-decides : (s : List ℕ) → Decides (wrongPeer (widthOf s) s) (WrongPeer s)

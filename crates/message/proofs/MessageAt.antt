@@ -9,18 +9,18 @@ use Rattle.aspath.specs.declared.Width.{Width}
 use Rattle.aspath.specs.Wire.{widthBytes}
 use Rattle.attributes.specs.Bodies.{attributesOf}
 use Rattle.message.specs.Message.{Message, update}
-use Rattle.octets.specs.Header.{secondsField}
-use Rattle.message.specs.Fields.{frame, peerAsField, peerAddressField, kindField, bodyStart, body, withdrawnSize, attributesSize, withdrawnIn, attributesIn, announcedIn}
+use Rattle.header.specs.Header.{secondsField}
+use Rattle.message.specs.Fields.{frame, peerAsField, peerAddressField, messageType, bodyStart, body, withdrawnSize, attributesSize, withdrawnIn, attributesIn, announcedIn}
 use Rattle.message.specs.Decode.{networksOf, messageAt, otherParts, updateParts}
 
 -- a message of a record's numbers, of a type and with three lists
 abbrev pub messageWith : Width → List ℕ → ℕ → List ℕ → List ℕ → List ℕ → Message
-messageWith w s kind withdrawn attributes announced = record {
+messageWith w s type withdrawn attributes announced = record {
   seconds = secondsField s;
   width = w;
   peerAs = peerAsField w s;
   peerAddress = peerAddressField w s;
-  kind = kind;
+  type = type;
   withdrawn = networksOf withdrawn;
   attributes = attributesOf (widthBytes w) attributes;
   announced = networksOf announced;
@@ -47,6 +47,6 @@ message-update w s =
     λ i. messageWith w s update (x i) (y i) (z i)
 
 -- of another message there are none
-pub message-other : (w : Width) (s : List ℕ) → messageAt s (otherParts w s) ≡ messageWith w s (kindField (frame w s)) [] [] []
+pub message-other : (w : Width) (s : List ℕ) → messageAt s (otherParts w s) ≡ messageWith w s (messageType (frame w s)) [] [] []
 unfolding messageAt otherParts
 message-other w s = refl

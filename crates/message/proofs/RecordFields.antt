@@ -10,7 +10,7 @@ use Rattle.aspath.specs.declared.Width.the-variants.{Two, Four}
 use Rattle.aspath.specs.Wire.{widthBytes}
 use Rattle.message.specs.Message.{Message}
 use Rattle.message.specs.Represents.{ipv4, bgp4mp, subtypeOf, FrameBytes, Represents}
-use Rattle.octets.specs.Header.{headerSize, secondsField, typeField, subtypeField, lengthField}
+use Rattle.header.specs.Header.{headerSize, secondsField, typeField, subtypeField, lengthField}
 use Rattle.message.specs.Fields.{frameStart, peerAsField, familyField, peerAddressField, frame}
 use Rattle.message.proofs.Places.{Stands, field-here, after, cut, field-of, free-cut}
 

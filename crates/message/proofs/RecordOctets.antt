@@ -6,12 +6,12 @@ use lib.ListN.{replicate}
 use Rattle.octets.specs.Numbers.{Octets}
 use Rattle.octets.proofs.Bytes.{octets-none, octets-append}
 use Rattle.octets.proofs.Encode.{octets-one}
-use Rattle.network.specs.declared.Network.{Network}
+use Rattle.network.specs.Networks.{addressBits, Network}
 use Rattle.network.specs.Wire.{PrefixBytes}
 use Rattle.octets.proofs.Items.{joined-octets}
 use Rattle.attributes.proofs.RawReads.{raw-octets}
 use Rattle.message.specs.Message.{Message}
-use Rattle.message.specs.Represents.{addressBits, markerSize, BodyBytes, is-update, is-other, FrameBytes, PeerBytes, Represents}
+use Rattle.message.specs.Represents.{markerSize, BodyBytes, is-update, is-other, FrameBytes, PeerBytes, Represents}
 
 -- the bytes of a prefix are bytes
 prefix-octets : {n : Network} {bytes : List ℕ} → PrefixBytes addressBits n bytes → Octets bytes
@@ -35,7 +35,7 @@ body-octets (is-other n x) = x .octets
 frame-octets : {m : Message} {l : List ℕ} → FrameBytes m l → Octets l
 frame-octets f =
     rw (f .joined)
-    (octets-append (octets-same markerSize 255 (omega arith)) (octets-append (f .sized .octets) (octets-append (f .kind-is .octets) (body-octets (f .body-is)))))
+    (octets-append (octets-same markerSize 255 (omega arith)) (octets-append (f .sized .octets) (octets-append (f .type-is .octets) (body-octets (f .body-is)))))
 
 peer-octets : {m : Message} {l : List ℕ} → PeerBytes m l → Octets l
 peer-octets p =

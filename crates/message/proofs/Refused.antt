@@ -11,26 +11,26 @@ use Rattle.octets.specs.Numbers.{Octets}
 use Rattle.octets.proofs.Bytes.{octets-drop, octets-take}
 use Rattle.message.specs.declared.Parts.{Parts}
 use Rattle.message.specs.declared.Refusal.{Refusal}
-use Rattle.message.specs.declared.Refusal.the-variants.{Size, Kind, Peer, Frame, Sections, Attributes, Body, Prefix}
+use Rattle.message.specs.declared.Refusal.the-variants.{Size, MrtType, Peer, Frame, Sections, Attributes, Body, Prefix}
 use Rattle.message.specs.declared.Decoded.the-variants.{Read, Refused}
 use Rattle.message.specs.Message.{update}
-use Rattle.message.specs.Fields.{widthOf, frame, kindField, bodyStart, body, withdrawnSize, attributesSize, attributesIn}
+use Rattle.message.specs.Fields.{widthOf, frame, messageType, bodyStart, body, withdrawnSize, attributesSize, attributesIn}
 use Rattle.message.specs.Refusals.{number, InUpdate, Row, rows, None, end, next, RefusedWith, Readable}
 use Rattle.message.specs.Decode.{otherParts, updateParts, updateOf, messageOf, decodeOf}
 use Rattle.message.proofs.Deciding.{Decides}
-use Rattle.message.proofs.HeaderChecks.{size-decides, kind-decides, peer-decides, frame-decides}
+use Rattle.message.proofs.HeaderChecks.{size-decides, mrt-type-decides, peer-decides, frame-decides}
 use Rattle.message.proofs.BodyChecks.{sections-decides, attributes-decides, attributes-whole, body-decides, prefix-decides}
-use Rattle.message.proofs.Table.{first-one, Answers, answers-read, answers-row, first-refused, none-read}
+use Rattle.message.proofs.Table.{first-one, RowAnswers, answers-read, answers-row, first-refused, none-read}
 
 -- in an UPDATE a check of the body decides the row on it
-in-update : {b : Bool} {C : List ℕ → Type 0} {s : List ℕ} → kindField (frame (widthOf s) s) ≡ update → Decides b (C (body (widthOf s) s)) → Decides b (InUpdate C s)
+in-update : {b : Bool} {C : List ℕ → Type 0} {s : List ℕ} → messageType (frame (widthOf s) s) ≡ update → Decides b (C (body (widthOf s) s)) → Decides b (InUpdate C s)
 in-update e d = record {
   sound = λ h. record { is-update = e; holds = d .sound h };
   complete = λ x. d .complete (x .holds);
 }
 
 -- the rows on the body agree with the checks of an UPDATE's body
-update-answers : {s : List ℕ} → Octets s → kindField (frame (widthOf s) s) ≡ update → Answers s (drop 4 rows) (updateOf (widthOf s) s)
+update-answers : {s : List ℕ} → Octets s → messageType (frame (widthOf s) s) ≡ update → RowAnswers s (drop 4 rows) (updateOf (widthOf s) s)
 unfolding rows updateOf
 update-answers {s} o e =
     let w = widthOf s in
@@ -46,7 +46,7 @@ update-answers {s} o e =
     (λ _. answers-read (updateParts w s) end))))
 
 -- they hold of no other message
-other-rows : {s : List ℕ} → (kindField (frame (widthOf s) s) ≡ update → ⊥) → None s (drop 4 rows)
+other-rows : {s : List ℕ} → (messageType (frame (widthOf s) s) ≡ update → ⊥) → None s (drop 4 rows)
 unfolding rows
 other-rows {s} n = next outside (next outside (next outside (next outside end)))
   where
@@ -54,20 +54,20 @@ other-rows {s} n = next outside (next outside (next outside (next outside end)))
     outside x = n (x .is-update)
 
 -- the answer agrees with the table
-pub decode-answers : {s : List ℕ} → Octets s → Answers s rows (decodeOf s)
+pub decode-answers : {s : List ℕ} → Octets s → RowAnswers s rows (decodeOf s)
 unfolding rows decodeOf messageOf
 decode-answers {s} o =
     let w = widthOf s in
     answers-row (size-decides s)
-    (λ _. answers-row (kind-decides s)
+    (λ _. answers-row (mrt-type-decides s)
     (λ _. answers-row (peer-decides s)
     (λ _. answers-row (frame-decides (frame w s))
-    (λ _. by-kind (eqb (kindField (frame w s)) update) refl))))
+    (λ _. by-type (eqb (messageType (frame w s)) update) refl))))
   where
-    by-kind : (t : Bool) → eqb (kindField (frame (widthOf s) s)) update ≡ t
-        → Answers s (drop 4 rows) (pick t (updateOf (widthOf s) s) (Read (otherParts (widthOf s) s)))
-    by-kind true h = update-answers o (eqb-true _ _ h)
-    by-kind false h = answers-read (otherParts (widthOf s) s) (other-rows (eqb-false _ _ h))
+    by-type : (t : Bool) → eqb (messageType (frame (widthOf s) s)) update ≡ t
+        → RowAnswers s (drop 4 rows) (pick t (updateOf (widthOf s) s) (Read (otherParts (widthOf s) s)))
+    by-type true h = update-answers o (eqb-true _ _ h)
+    by-type false h = answers-read (otherParts (widthOf s) s) (other-rows (eqb-false _ _ h))
 
 -- ---- the table and decoding
 
@@ -102,7 +102,7 @@ refusals = map (λ (row : Row). row .refusal) rows
 pub number-place : (r : Refusal) → getD refusals (number r - 11) Size ≡ r
 unfolding rows
 number-place Size = refl
-number-place Kind = refl
+number-place MrtType = refl
 number-place Peer = refl
 number-place Frame = refl
 number-place Sections = refl

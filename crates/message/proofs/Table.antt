@@ -26,21 +26,21 @@ module _ {s : List ℕ} where
   first-none (later n f) (next k m) = first-none f m
 
 -- an answer agrees with a table: a refusal is that of the first row that holds, and where something is read no row holds
-pub record Answers (s : List ℕ) (table : List Row) (d : Decoded) : Type 1 where
+pub record RowAnswers (s : List ℕ) (table : List Row) (d : Decoded) : Type 1 where
   pub refused : {r : Refusal} → d ≡ Refused r → First s table r
   pub read : {p : Parts} → d ≡ Read p → None s table
 
 module _ {s : List ℕ} where
   -- where no row holds, what is read agrees
-  pub answers-read : {table : List Row} (p : Parts) → None s table → Answers s table (Read p)
+  pub answers-read : {table : List Row} (p : Parts) → None s table → RowAnswers s table (Read p)
   answers-read p n = record {
     refused = λ e. absurd (let z : _≡_ {A = ℕ} 0 1 = cc in omega arith);
     read = λ e. n;
   }
 
   -- a check that decides its row, and after it an answer that agrees with the rows below
-  pub answers-row : {r : Row} {more : List Row} {b : Bool} {d : Decoded} → Decides b (r .condition s) → (b ≡ false → Answers s more d)
-      → Answers s (r ∷ more) (pick b (Refused (r .refusal)) d)
+  pub answers-row : {r : Row} {more : List Row} {b : Bool} {d : Decoded} → Decides b (r .condition s) → (b ≡ false → RowAnswers s more d)
+      → RowAnswers s (r ∷ more) (pick b (Refused (r .refusal)) d)
   answers-row {r = r} {more = more} {b = true} c f = record {
     refused = λ {r = x} e. let q : r .refusal ≡ x = cc in subst (λ (y : Refusal). First s (r ∷ more) y) q (here (c .sound refl));
     read = λ e. absurd (let z : _≡_ {A = ℕ} 0 1 = cc in omega arith);
@@ -51,11 +51,11 @@ module _ {s : List ℕ} where
   }
 
   -- the answer that agrees with a table is the first row's refusal
-  pub first-refused : {table : List Row} (d : Decoded) {r : Refusal} → Answers s table d → First s table r → d ≡ Refused r
+  pub first-refused : {table : List Row} (d : Decoded) {r : Refusal} → RowAnswers s table d → First s table r → d ≡ Refused r
   first-refused (Read p) a f = absurd (first-none f (a .read refl))
   first-refused (Refused x) a f = let q = first-one (a .refused refl) f in cc
 
   -- and where no row holds, it reads something
-  pub none-read : {table : List Row} (d : Decoded) → Answers s table d → None s table → (p : Parts) × (d ≡ Read p)
+  pub none-read : {table : List Row} (d : Decoded) → RowAnswers s table d → None s table → (p : Parts) × (d ≡ Read p)
   none-read (Read p) a n = (p, refl)
   none-read (Refused x) a n = absurd (first-none (a .refused refl) n)

@@ -7,13 +7,14 @@ use lib.ListN.{length, take, drop, length-append, length-drop}
 use lib.Seq.{length-take-le}
 use Rattle.octets.specs.Numbers.{Octets}
 use Rattle.octets.specs.Rows.{Joined}
+use Rattle.network.specs.Networks.{addressBits}
 use Rattle.network.specs.Wire.{PrefixBytes}
 use Rattle.aspath.specs.Wire.{widthBytes}
 use Rattle.attributes.specs.Attribute.{codeOf}
 use Rattle.attributes.specs.Bodies.{AttributeBytes}
 use Rattle.attributes.specs.Codes.{Twice}
 use Rattle.message.specs.Message.{Message}
-use Rattle.message.specs.Represents.{addressBits, UpdateBytes}
+use Rattle.message.specs.Represents.{UpdateBytes}
 use Rattle.message.specs.Fields.{withdrawnSize, attributesSize, withdrawnIn, attributesIn, announcedIn}
 use Rattle.message.proofs.Places.{Stands, here, field-here, after, cut, field-of}
 

@@ -8,7 +8,7 @@ use Rattle.octets.specs.Rows.{Joined, whole}
 use Rattle.octets.proofs.Bytes.{octets-take, octets-drop}
 use Rattle.octets.proofs.Choices.{never}
 use Rattle.octets.proofs.Rows.{joined-whole, joined-items, whole-joined}
-use Rattle.network.specs.declared.Network.{Network}
+use Rattle.network.specs.Networks.{addressBits, Network}
 use Rattle.network.specs.Wire.{PrefixBytes, prefixSize}
 use Rattle.network.proofs.Prefixes.{prefix-reads}
 use Rattle.aspath.specs.Wire.{widthBytes}
@@ -17,7 +17,6 @@ use Rattle.attributes.specs.Codes.{Twice, distinct}
 use Rattle.attributes.proofs.MeaningCodes.{twice-sound, twice-complete}
 use Rattle.attributes.proofs.MeaningSections.{attributes-joined, joined-raws}
 use Rattle.message.specs.Message.{Message}
-use Rattle.message.specs.Represents.{addressBits}
 use Rattle.message.specs.Fields.{withdrawnSize, attributesSize, withdrawnIn, attributesIn, announcedIn}
 use Rattle.message.specs.Decode.{networksOf}
 use Rattle.message.proofs.Checks.{RightUpdate}

@@ -3,15 +3,14 @@ use Prim.Native.Nat.{ℕ, _+_, _^_, _≤_, _<_}
 use mathlib.Core.Path.{_≡_}
 use mathlib.Core.List.{[], map}
 use Rattle.octets.specs.Lists.{Every, total}
-use Rattle.network.specs.declared.Network.{Network}
-use Rattle.network.specs.Networks.{masked}
+use Rattle.network.specs.Networks.{addressBits, Network, masked}
 use Rattle.network.specs.Wire.{bytesFor}
 use Rattle.aspath.specs.Wire.{widthBytes}
 use Rattle.attributes.specs.Attribute.{codeOf}
 use Rattle.attributes.specs.Codes.{Twice}
 use Rattle.attributes.specs.Encodable.{EncodableAttribute, attributeCost}
 use Rattle.message.specs.Message.{Message, update}
-use Rattle.message.specs.Represents.{addressBits, messageLimit, frameHeader}
+use Rattle.message.specs.Represents.{messageLimit, frameHeader}
 
 -- a network that has a prefix: the bits past its length are cleared
 pub record AllowedNetwork (n : Network) : Type 0 where
@@ -25,7 +24,9 @@ networkCost n = 1 + bytesFor (n .len)
 
 -- the bytes of the body of an UPDATE, its attributes at their shortest
 abbrev updateCost : Message → ℕ
-updateCost m = 4 + total networkCost (m .withdrawn) + total (attributeCost (widthBytes (m .width))) (m .attributes) + total networkCost (m .announced)
+updateCost m =
+    4 + total networkCost (m .withdrawn) + total (attributeCost (widthBytes (m .width))) (m .attributes)
+    + total networkCost (m .announced)
 
 -- an UPDATE that has a body: no code comes twice, and all of it fits
 pub record AllowedUpdate (m : Message) : Type 0 where
@@ -43,13 +44,13 @@ pub record AllowedOther (m : Message) : Type 0 where
 
 -- one or the other, by the message's type
 pub data AllowedBody (m : Message) : Type 0 where
-  for-update : m .kind ≡ update → AllowedUpdate m → AllowedBody m
-  for-other : (m .kind ≡ update → ⊥) → AllowedOther m → AllowedBody m
+  for-update : m .type ≡ update → AllowedUpdate m → AllowedBody m
+  for-other : (m .type ≡ update → ⊥) → AllowedOther m → AllowedBody m
 
 -- a message that has a record: its numbers fit their fields, and its body fits
 pub record Allowed (m : Message) : Type 0 where
   pub seconds : m .seconds < 2 ^ 32
   pub peerAs : m .peerAs < 256 ^ widthBytes (m .width)
-  pub peerAddress : m .peerAddress < 2 ^ 32
-  pub kind : m .kind < 256
+  pub peerAddress : m .peerAddress < 2 ^ addressBits
+  pub type : m .type < 256
   pub body : AllowedBody m

@@ -8,7 +8,7 @@ use lib.Dec.{ltb, eqb}
 use Rattle.octets.specs.Choice.{pick}
 use Rattle.octets.specs.Parts.{partAt}
 use Rattle.octets.specs.Rows.{whole, items}
-use Rattle.network.specs.declared.Network.{Network}
+use Rattle.network.specs.Networks.{addressBits, Network}
 use Rattle.network.specs.Wire.{prefixSize, networkOf}
 use Rattle.aspath.specs.declared.Width.{Width}
 use Rattle.aspath.specs.declared.Width.the-variants.{Two, Four}
@@ -18,13 +18,14 @@ use Rattle.attributes.specs.Codes.{isSound}
 use Rattle.attributes.specs.Bodies.{allRight, attributesOf}
 use Rattle.message.specs.declared.Part.{Part}
 use Rattle.message.specs.declared.Parts.{Parts}
-use Rattle.message.specs.declared.Refusal.the-variants.{Size, Kind, Peer, Frame, Sections, Attributes, Body, Prefix}
+use Rattle.message.specs.declared.Refusal.the-variants.{Size, MrtType, Peer, Frame, Sections, Attributes, Body, Prefix}
 use Rattle.message.specs.declared.Decoded.{Decoded}
 use Rattle.message.specs.declared.Decoded.the-variants.{Read, Refused}
 use Rattle.message.specs.Message.{Message, update}
-use Rattle.message.specs.Represents.{addressBits, messageLimit, markerSize, frameHeader, ipv4, bgp4mp, subtypeOf}
-use Rattle.octets.specs.Header.{headerSize, secondsField, typeField, subtypeField, lengthField}
-use Rattle.message.specs.Fields.{widthOf, frameStart, peerAsField, familyField, peerAddressField, frame, frameLength, kindField, bodyStart, body, withdrawnSize, attributesSize, withdrawnIn, attributesIn, announcedIn}
+use Rattle.message.specs.Represents.{messageLimit, markerSize, frameHeader, ipv4, bgp4mp, subtypeOf}
+use Rattle.header.specs.Header.{headerSize, secondsField, typeField, subtypeField, lengthField}
+use Rattle.message.specs.Fields.{widthOf, frameStart, peerAsField, familyField, peerAddressField, frame, frameLength, messageType}
+use Rattle.message.specs.Fields.{bodyStart, body, withdrawnSize, attributesSize, withdrawnIn, attributesIn, announcedIn}
 use Rattle.message.specs.Refusals.{recordLimit, number as numberOf}
 
 -- ---- what the answer stands for
@@ -44,7 +45,7 @@ messageAt s p = record {
   width = p .width;
   peerAs = p .peer;
   peerAddress = p .address;
-  kind = p .kind;
+  type = p .code;
   withdrawn = networksOf (partOf s (p .withdrawn));
   attributes = attributesOf (widthBytes (p .width)) (partOf s (p .attributes));
   announced = networksOf (partOf s (p .announced));
@@ -58,8 +59,8 @@ wrongSize s =
     (pick (ltb recordLimit (length s)) true
     (not (eqb (headerSize + lengthField s) (length s))))
 
-unfoldable pub wrongKind : List ℕ → Bool
-wrongKind s =
+unfoldable pub wrongMrtType : List ℕ → Bool
+wrongMrtType s =
     pick (eqb (typeField s) bgp4mp)
     (pick (eqb (subtypeField s) (subtypeOf Two)) false (not (eqb (subtypeField s) (subtypeOf Four))))
     true
@@ -93,35 +94,30 @@ unfoldable pub wrongPrefix : List ℕ → List ℕ → Bool
 wrongPrefix withdrawn announced =
     pick (whole (prefixSize addressBits) withdrawn) (not (whole (prefixSize addressBits) announced)) true
 
--- the parts of a record whose message is no UPDATE, and of one whose message is
-unfoldable pub otherParts : Width → List ℕ → Parts
-otherParts w s = record {
+-- the parts of a record: the numbers before its message, the message's type, and where its sections stand
+abbrev pub partsWith : Width → List ℕ → ℕ → Part → Part → Part → Parts
+partsWith w s type withdrawn attributes announced = record {
   seconds = secondsField s;
   width = w;
   peer = peerAsField w s;
   address = peerAddressField w s;
-  kind = kindField (frame w s);
-  withdrawn = record { start = 0; len = 0 };
-  attributes = record { start = 0; len = 0 };
-  announced = record { start = 0; len = 0 };
+  code = type;
+  withdrawn = withdrawn;
+  attributes = attributes;
+  announced = announced;
 }
+
+-- those of a message that is no UPDATE, and of one that is
+unfoldable pub otherParts : Width → List ℕ → Parts
+otherParts w s = let none : Part = record { start = 0; len = 0 } in partsWith w s (messageType (frame w s)) none none none
 
 unfoldable pub updateParts : Width → List ℕ → Parts
 updateParts w s =
     let b = body w s in
-    record {
-      seconds = secondsField s;
-      width = w;
-      peer = peerAsField w s;
-      address = peerAddressField w s;
-      kind = update;
-      withdrawn = record { start = bodyStart w + 2; len = withdrawnSize b };
-      attributes = record { start = bodyStart w + 4 + withdrawnSize b; len = attributesSize b };
-      announced = record {
-        start = bodyStart w + 4 + withdrawnSize b + attributesSize b;
-        len = length b - (4 + withdrawnSize b + attributesSize b);
-      };
-    }
+    partsWith w s update
+    (record { start = bodyStart w + 2; len = withdrawnSize b })
+    (record { start = bodyStart w + 4 + withdrawnSize b; len = attributesSize b })
+    (record { start = bodyStart w + 4 + withdrawnSize b + attributesSize b; len = length b - (4 + withdrawnSize b + attributesSize b) })
 
 -- the checks of an UPDATE's body, down the table
 unfoldable pub updateOf : Width → List ℕ → Decoded
@@ -138,13 +134,13 @@ unfoldable pub messageOf : Width → List ℕ → Decoded
 messageOf w s =
     pick (wrongPeer w s) (Refused Peer)
     (pick (wrongFrame (frame w s)) (Refused Frame)
-    (pick (eqb (kindField (frame w s)) update) (updateOf w s)
+    (pick (eqb (messageType (frame w s)) update) (updateOf w s)
     (Read (otherParts w s))))
 
 unfoldable pub decodeOf : List ℕ → Decoded
 decodeOf s =
     pick (wrongSize s) (Refused Size)
-    (pick (wrongKind s) (Refused Kind)
+    (pick (wrongMrtType s) (Refused MrtType)
     (messageOf (widthOf s) s))
 
 -- ---- as a number

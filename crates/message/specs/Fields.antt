@@ -5,8 +5,9 @@ use lib.ListN.{getD, drop}
 use lib.Dec.{eqb}
 use Rattle.octets.specs.Choice.{pick}
 use Rattle.octets.specs.Numbers.{numberAt}
-use Rattle.octets.specs.Header.{headerSize, subtypeField}
+use Rattle.header.specs.Header.{headerSize, subtypeField}
 use Rattle.octets.specs.Parts.{partAt}
+use Rattle.network.specs.Networks.{addressSize}
 use Rattle.aspath.specs.declared.Width.{Width}
 use Rattle.aspath.specs.declared.Width.the-variants.{Two, Four}
 use Rattle.aspath.specs.Wire.{widthBytes}
@@ -16,7 +17,7 @@ use Rattle.message.specs.Represents.{markerSize, frameHeader, subtypeOf}
 abbrev pub widthOf : List ℕ → Width
 widthOf s = pick (eqb (subtypeField s) (subtypeOf Two)) Two Four
 
--- the peer part, at a width: two AS numbers, the interface (2), the family (2), two addresses (4 each)
+-- the peer part, at a width: two AS numbers, the interface (2), the family (2), two addresses
 
 abbrev pub peerAsField : Width → List ℕ → ℕ
 peerAsField w s = numberAt s headerSize (widthBytes w)
@@ -25,11 +26,11 @@ abbrev pub familyField : Width → List ℕ → ℕ
 familyField w s = numberAt s (headerSize + 2 * widthBytes w + 2) 2
 
 abbrev pub peerAddressField : Width → List ℕ → ℕ
-peerAddressField w s = numberAt s (headerSize + 2 * widthBytes w + 4) 4
+peerAddressField w s = numberAt s (headerSize + 2 * widthBytes w + 4) addressSize
 
 -- what follows it
 abbrev pub frameStart : Width → ℕ
-frameStart w = headerSize + 2 * widthBytes w + 12
+frameStart w = headerSize + 2 * widthBytes w + 4 + 2 * addressSize
 
 -- the BGP message: sixteen bytes of marker, its length, its type, its body
 
@@ -39,8 +40,8 @@ frame w s = drop (frameStart w) s
 abbrev pub frameLength : List ℕ → ℕ
 frameLength m = numberAt m markerSize 2
 
-abbrev pub kindField : List ℕ → ℕ
-kindField m = getD m (markerSize + 2) 0
+abbrev pub messageType : List ℕ → ℕ
+messageType m = getD m (markerSize + 2) 0
 
 abbrev pub bodyStart : Width → ℕ
 bodyStart w = frameStart w + frameHeader

@@ -1,7 +1,7 @@
 -- What a record says.
 use Prim.Native.Nat.{ℕ}
 use mathlib.Core.List.{List}
-use Rattle.network.specs.declared.Network.{Network}
+use Rattle.network.specs.Networks.{Network}
 use Rattle.aspath.specs.declared.Width.{Width}
 use Rattle.attributes.specs.Attribute.{Attribute}
 
@@ -15,7 +15,7 @@ pub record Message : Type 0 where
   pub width : Width
   pub peerAs : ℕ
   pub peerAddress : ℕ
-  pub kind : ℕ
+  pub type : ℕ
   pub withdrawn : List Network
   pub attributes : List Attribute
   pub announced : List Network

@@ -5,7 +5,7 @@ use mathlib.Core.Path.{_≡_}
 use mathlib.Core.List.{List, [], _∷_}
 use lib.ListN.{length, take, replicate}
 use Rattle.octets.specs.Rows.{Joined}
-use Rattle.network.specs.declared.Network.{Network}
+use Rattle.network.specs.Networks.{addressBits, Network}
 use Rattle.network.specs.Wire.{PrefixBytes}
 use Rattle.aspath.specs.declared.Width.{Width}
 use Rattle.aspath.specs.Wire.{widthBytes}
@@ -13,11 +13,12 @@ use Rattle.attributes.specs.Wire.{Raw, RawBytes, codes}
 use Rattle.attributes.specs.Codes.{Twice}
 use Rattle.attributes.specs.Bodies.{SomeWrong}
 use Rattle.message.specs.declared.Refusal.{Refusal}
-use Rattle.message.specs.declared.Refusal.the-variants.{Size, Kind, Peer, Frame, Sections, Attributes, Body, Prefix}
+use Rattle.message.specs.declared.Refusal.the-variants.{Size, MrtType, Peer, Frame, Sections, Attributes, Body, Prefix}
 use Rattle.message.specs.Message.{update}
-use Rattle.message.specs.Represents.{addressBits, messageLimit, markerSize, frameHeader, ipv4, bgp4mp, subtypeOf}
-use Rattle.octets.specs.Header.{headerSize, typeField, subtypeField, lengthField}
-use Rattle.message.specs.Fields.{widthOf, frameStart, familyField, frame, frameLength, kindField, body, withdrawnSize, attributesSize, withdrawnIn, attributesIn, announcedIn}
+use Rattle.message.specs.Represents.{messageLimit, markerSize, frameHeader, ipv4, bgp4mp, subtypeOf}
+use Rattle.header.specs.Header.{headerSize, typeField, subtypeField, lengthField}
+use Rattle.message.specs.Fields.{widthOf, frameStart, familyField, frame, frameLength, messageType, body, withdrawnSize}
+use Rattle.message.specs.Fields.{attributesSize, withdrawnIn, attributesIn, announcedIn}
 
 -- the most bytes of a record that is read
 abbrev pub recordLimit : ℕ
@@ -26,7 +27,7 @@ recordLimit = 8192
 -- the paper's number
 abbrev pub number : Refusal → ℕ
 number Size = 11
-number Kind = 12
+number MrtType = 12
 number Peer = 13
 number Frame = 14
 number Sections = 15
@@ -41,9 +42,9 @@ pub data WrongSize (s : List ℕ) : Type 0 where
   uneven : (headerSize + lengthField s ≡ length s → ⊥) → WrongSize s
 
 -- 12: other type or subtype
-pub data WrongKind (s : List ℕ) : Type 0 where
-  other-type : (typeField s ≡ bgp4mp → ⊥) → WrongKind s
-  other-subtype : ((w : Width) → subtypeField s ≡ subtypeOf w → ⊥) → WrongKind s
+pub data WrongMrtType (s : List ℕ) : Type 0 where
+  other-type : (typeField s ≡ bgp4mp → ⊥) → WrongMrtType s
+  other-subtype : ((w : Width) → subtypeField s ≡ subtypeOf w → ⊥) → WrongMrtType s
 
 -- 13: peer part cut, or family not 1
 pub data WrongPeer (s : List ℕ) : Type 0 where
@@ -81,7 +82,7 @@ pub data WrongPrefix (withdrawn announced : List ℕ) : Type 0 where
 
 -- a condition on the body of an UPDATE, false of any other message
 pub record InUpdate (condition : List ℕ → Type 0) (s : List ℕ) : Type 0 where
-  pub is-update : kindField (frame (widthOf s) s) ≡ update
+  pub is-update : messageType (frame (widthOf s) s) ≡ update
   pub holds : condition (body (widthOf s) s)
 
 pub record Row : Type 1 where
@@ -95,7 +96,7 @@ row r c = record { refusal = r; condition = c }
 unfoldable pub rows : List Row
 rows =
     row Size WrongSize
-    ∷ row Kind WrongKind
+    ∷ row MrtType WrongMrtType
     ∷ row Peer WrongPeer
     ∷ row Frame (λ s. WrongFrame (frame (widthOf s) s))
     ∷ row Sections (InUpdate WrongSections)

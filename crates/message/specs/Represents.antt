@@ -6,6 +6,7 @@ use mathlib.Core.List.{List, [], _++_, map}
 use lib.ListN.{length, replicate}
 use Rattle.octets.specs.Numbers.{Octets, Free, Field}
 use Rattle.octets.specs.Rows.{Joined}
+use Rattle.network.specs.Networks.{addressBits, addressSize}
 use Rattle.network.specs.Wire.{PrefixBytes}
 use Rattle.aspath.specs.declared.Width.{Width}
 use Rattle.aspath.specs.declared.Width.the-variants.{Two, Four}
@@ -14,10 +15,6 @@ use Rattle.attributes.specs.Attribute.{codeOf}
 use Rattle.attributes.specs.Bodies.{AttributeBytes}
 use Rattle.attributes.specs.Codes.{Twice}
 use Rattle.message.specs.Message.{Message, update}
-
--- an IPv4 address has 32 bits
-abbrev pub addressBits : ℕ
-addressBits = 32
 
 -- the most bytes of a BGP message
 abbrev pub messageLimit : ℕ
@@ -66,18 +63,18 @@ pub record OtherBytes (m : Message) (l : List ℕ) : Type 0 where
   pub no-announced : m .announced ≡ []
 
 pub data BodyBytes (m : Message) (l : List ℕ) : Type 0 where
-  is-update : m .kind ≡ update → UpdateBytes m l → BodyBytes m l
-  is-other : (m .kind ≡ update → ⊥) → OtherBytes m l → BodyBytes m l
+  is-update : m .type ≡ update → UpdateBytes m l → BodyBytes m l
+  is-other : (m .type ≡ update → ⊥) → OtherBytes m l → BodyBytes m l
 
 -- a BGP message: a marker of ones, the length of all of it, its type, its body
 pub record FrameBytes (m : Message) (l : List ℕ) : Type 0 where
   pub size : List ℕ
-  pub kind : List ℕ
+  pub type : List ℕ
   pub body : List ℕ
-  pub joined : l ≡ replicate markerSize 255 ++ (size ++ (kind ++ body))
+  pub joined : l ≡ replicate markerSize 255 ++ (size ++ (type ++ body))
   pub sized : Field 2 (length l) size
   pub limited : length l ≤ messageLimit
-  pub kind-is : Field 1 (m .kind) kind
+  pub type-is : Field 1 (m .type) type
   pub body-is : BodyBytes m body
 
 -- what follows the header: the peer's and the local AS number, the interface, the address family, the peer's and the local
@@ -95,8 +92,8 @@ pub record PeerBytes (m : Message) (l : List ℕ) : Type 0 where
   pub localAs-free : Free (widthBytes (m .width)) localAs
   pub interface-free : Free 2 interface
   pub family-is : Field 2 ipv4 family
-  pub peerAddress-is : Field 4 (m .peerAddress) peerAddress
-  pub localAddress-free : Free 4 localAddress
+  pub peerAddress-is : Field addressSize (m .peerAddress) peerAddress
+  pub localAddress-free : Free addressSize localAddress
   pub frame-is : FrameBytes m frame
 
 -- a record of type 16, subtype 1 or 4: its header (the time, the type, the subtype, the length of what follows) and what follows. It has at

@@ -3,10 +3,59 @@ ghost use mathlib.Core.Path.{_≡_};
 ghost use Prim.Native.Nat.{_≤_, _+_};
 ghost use lib.ListN.{length};
 ghost use Rattle.message.specs.Represents.{markerSize};
-ghost use Rattle.message.specs.Fields.{widthOf, frameStart, frame, kindField, bodyStart, body, withdrawnSize, attributesSize};
+ghost use Rattle.message.specs.Fields.{widthOf, frameStart, frame, messageType, bodyStart, body, withdrawnSize, attributesSize};
 ghost use Rattle.message.specs.Refusals.{number};
-ghost use Rattle.message.specs.Decode.{wrongSize, wrongKind, wrongPeer, ones, wrongFrame, wrongSections, wrongPrefix, otherParts, updateParts, updateOf, messageOf, decodingOf, ourDecoding};
+ghost use Rattle.message.specs.Decode.{partOf, wrongSize, wrongMrtType, wrongPeer, ones, wrongFrame, wrongSections, wrongPrefix};
+ghost use Rattle.message.specs.Decode.{otherParts, updateParts, updateOf, messageOf, decodingOf, ourDecoding};
 use aspath::Width;
+
+pub const RECORD_LIMIT: usize = 8192;
+
+// BGP4MP of RFC 6396, and its subtypes for AS numbers of two bytes and of four.
+pub const BGP4MP: u32 = 16;
+
+pub const MESSAGE: u32 = 1;
+
+pub const MESSAGE_AS4: u32 = 4;
+
+// The address family IPv4.
+pub const IPV4: u32 = 1;
+
+const INTERFACE_SIZE: usize = 2;
+
+const FAMILY_SIZE: usize = 2;
+
+// The peer's and the local address, which end the peer part; the family stands before them.
+const ADDRESSES_SIZE: usize = 2 * network::ADDRESS_SIZE;
+
+const FROM_FAMILY: usize = FAMILY_SIZE + ADDRESSES_SIZE;
+
+// Where the BGP message starts, behind AS numbers of two bytes and of four.
+const FRAME_AFTER_TWO: usize = header::SIZE + 2 * 2 + INTERFACE_SIZE + FROM_FAMILY;
+
+const FRAME_AFTER_FOUR: usize = header::SIZE + 2 * 4 + INTERFACE_SIZE + FROM_FAMILY;
+
+// The header of a BGP message (RFC 4271, section 4.1).
+const MARKER: u8 = 255;
+
+const MARKER_SIZE: usize = 16;
+
+const LENGTH_SIZE: usize = 2;
+
+const TYPE_AT: usize = MARKER_SIZE + LENGTH_SIZE;
+
+const TYPE_SIZE: usize = 1;
+
+const FRAME_HEADER: usize = TYPE_AT + TYPE_SIZE;
+
+pub const MESSAGE_LIMIT: usize = 4096;
+
+pub const UPDATE: u32 = 2;
+
+// The length of the withdrawn prefixes, that of the attributes, and both.
+const SECTION_LENGTH: usize = 2;
+
+const SECTION_LENGTHS: usize = 2 * SECTION_LENGTH;
 
 // Where a part stands in its record.
 pub struct Part {
@@ -20,7 +69,7 @@ pub struct Parts {
     pub width: Width,
     pub peer: u32,
     pub address: u32,
-    pub kind: u32,
+    pub code: u32,
     pub withdrawn: Part,
     pub attributes: Part,
     pub announced: Part,
@@ -29,7 +78,7 @@ pub struct Parts {
 // Why a record isn't read, in the order of the table.
 pub enum Refusal {
     Size,
-    Kind,
+    MrtType,
     Peer,
     Frame,
     Sections,
@@ -46,33 +95,33 @@ pub enum Decoded {
 fn wrong_size(s: &[u8]) -> bool
     ensures { λ r. ⌜ r ≡ wrongSize (now (s .entry)) ⌝ }
 {
-    if s.len() < 12 {
+    if s.len() < header::SIZE {
         return true;
     }
-    if 8192 < s.len() {
+    if RECORD_LIMIT < s.len() {
         return true;
     }
-    let body = octets::number(s, 8, 4) as usize;
-    12 + body != s.len()
+    let body = octets::number(s, header::LENGTH_AT, header::LENGTH_SIZE) as usize;
+    header::SIZE + body != s.len()
 }
 
-fn wrong_kind(s: &[u8]) -> bool
-    ensures { λ r. ⌜ r ≡ wrongKind (now (s .entry)) ⌝ }
+fn wrong_mrt_type(s: &[u8]) -> bool
+    ensures { λ r. ⌜ r ≡ wrongMrtType (now (s .entry)) ⌝ }
 {
-    if octets::number(s, 4, 2) != 16 {
+    if octets::number(s, header::TYPE_AT, header::TYPE_SIZE) != BGP4MP {
         return true;
     }
-    let subtype = octets::number(s, 6, 2);
-    if subtype == 1 {
+    let subtype = octets::number(s, header::SUBTYPE_AT, header::SUBTYPE_SIZE);
+    if subtype == MESSAGE {
         return false;
     }
-    subtype != 4
+    subtype != MESSAGE_AS4
 }
 
 fn width_of(s: &[u8]) -> Width
     ensures { λ r. ⌜ r ≡ widthOf (now (s .entry)) ⌝ }
 {
-    if octets::number(s, 6, 2) == 1 {
+    if octets::number(s, header::SUBTYPE_AT, header::SUBTYPE_SIZE) == MESSAGE {
         return Width::Two;
     }
     Width::Four
@@ -83,8 +132,8 @@ fn frame_start(width: Width) -> usize
     ensures { λ r. ⌜ (r ≡ frameStart width) × (28 ≤ r) × (r ≤ 32) ⌝ }
 {
     match width {
-        Width::Two => 28,
-        Width::Four => 32,
+        Width::Two => FRAME_AFTER_TWO,
+        Width::Four => FRAME_AFTER_FOUR,
     }
 }
 
@@ -95,7 +144,7 @@ fn wrong_peer(s: &[u8], width: Width) -> bool
     if s.len() < start {
         return true;
     }
-    octets::number(s, start - 10, 2) != 1
+    octets::number(s, start - FROM_FAMILY, FAMILY_SIZE) != IPV4
 }
 
 fn marker(m: &[u8]) -> bool
@@ -103,8 +152,8 @@ fn marker(m: &[u8]) -> bool
     ensures { λ r. ⌜ r ≡ ones markerSize (now (m .entry)) ⌝ }
 {
     let mut i = 0;
-    while i < 16 {
-        if m[i] != 255 {
+    while i < MARKER_SIZE {
+        if m[i] != MARKER {
             return false;
         }
         i += 1;
@@ -115,28 +164,28 @@ fn marker(m: &[u8]) -> bool
 fn wrong_frame(m: &[u8]) -> bool
     ensures { λ r. ⌜ r ≡ wrongFrame (now (m .entry)) ⌝ }
 {
-    if m.len() < 19 {
+    if m.len() < FRAME_HEADER {
         return true;
     }
-    if 4096 < m.len() {
+    if MESSAGE_LIMIT < m.len() {
         return true;
     }
     if !marker(m) {
         return true;
     }
-    let length = octets::number(m, 16, 2) as usize;
+    let length = octets::number(m, MARKER_SIZE, LENGTH_SIZE) as usize;
     length != m.len()
 }
 
 fn wrong_sections(b: &[u8]) -> bool
     ensures { λ r. ⌜ r ≡ wrongSections (now (b .entry)) ⌝ }
 {
-    let withdrawn = octets::number(b, 0, 2) as usize;
-    if b.len() < 4 + withdrawn {
+    let withdrawn = octets::number(b, 0, SECTION_LENGTH) as usize;
+    if b.len() < SECTION_LENGTHS + withdrawn {
         return true;
     }
-    let attributes = octets::number(b, 2 + withdrawn, 2) as usize;
-    b.len() < 4 + withdrawn + attributes
+    let attributes = octets::number(b, SECTION_LENGTH + withdrawn, SECTION_LENGTH) as usize;
+    b.len() < SECTION_LENGTHS + withdrawn + attributes
 }
 
 fn wrong_prefix(withdrawn: &[u8], announced: &[u8]) -> bool
@@ -148,26 +197,47 @@ fn wrong_prefix(withdrawn: &[u8], announced: &[u8]) -> bool
     !network::prefixes_whole(announced)
 }
 
-// The parts of an UPDATE whose sections fit; withdrawn and attributes are their lengths.
-fn update_parts(s: &[u8], width: Width, withdrawn: usize, attributes: usize) -> Parts
-    requires { ⌜ (withdrawn ≡ withdrawnSize (body width (now s))) × (attributes ≡ attributesSize (body width (now s))) × (bodyStart width + 4 + withdrawn + attributes ≤ length (now s)) ⌝ }
+// The parts of a message without sections: the numbers before it, and its type.
+fn other_parts(s: &[u8], width: Width, code: u32) -> Parts
+    requires { ⌜ code ≡ messageType (frame width (now s)) ⌝ }
+    ensures { λ r. ⌜ r ≡ otherParts width (now (s .entry)) ⌝ }
+{
+    let start = frame_start(width);
+    let none = Part { start: 0, len: 0 };
+    Parts {
+        seconds: octets::number(s, header::SECONDS_AT, header::SECONDS_SIZE),
+        width,
+        peer: octets::number(s, header::SIZE, aspath::width_bytes(width)),
+        address: octets::number(s, start - ADDRESSES_SIZE, network::ADDRESS_SIZE),
+        code,
+        withdrawn: none,
+        attributes: none,
+        announced: none,
+    }
+}
+
+// The parts of an UPDATE whose sections fit, from those without them; withdrawn and attributes are the lengths of two.
+fn update_parts(s: &[u8], width: Width, parts: Parts, withdrawn: usize, attributes: usize) -> Parts
+    requires { ⌜ (parts ≡ otherParts width (now s))
+        × (withdrawn ≡ withdrawnSize (body width (now s)))
+        × (attributes ≡ attributesSize (body width (now s)))
+        × (bodyStart width + 4 + withdrawn + attributes ≤ length (now s)) ⌝ }
     ensures { λ r. ⌜ r ≡ updateParts width (now (s .entry)) ⌝ }
 {
-    let frame = frame_start(width);
-    let start = frame + 19;
-    let announced = start + 4 + withdrawn + attributes;
+    let start = frame_start(width) + FRAME_HEADER;
+    let announced = start + SECTION_LENGTHS + withdrawn + attributes;
     Parts {
-        seconds: octets::number(s, 0, 4),
+        seconds: parts.seconds,
         width,
-        peer: octets::number(s, 12, aspath::width_bytes(width)),
-        address: octets::number(s, frame - 8, 4),
-        kind: 2,
+        peer: parts.peer,
+        address: parts.address,
+        code: UPDATE,
         withdrawn: Part {
-            start: start + 2,
+            start: start + SECTION_LENGTH,
             len: withdrawn,
         },
         attributes: Part {
-            start: start + 4 + withdrawn,
+            start: start + SECTION_LENGTHS + withdrawn,
             len: attributes,
         },
         announced: Part {
@@ -177,47 +247,29 @@ fn update_parts(s: &[u8], width: Width, withdrawn: usize, attributes: usize) -> 
     }
 }
 
-// The checks of an UPDATE's body, and its parts.
-fn update(s: &[u8], width: Width) -> Decoded
+// The checks of an UPDATE's body, and its parts, from those without sections.
+fn update(s: &[u8], width: Width, parts: Parts) -> Decoded
+    requires { ⌜ parts ≡ otherParts width (now s) ⌝ }
     ensures { λ r. ⌜ r ≡ updateOf width (now (s .entry)) ⌝ }
 {
-    let b = octets::rest(s, frame_start(width) + 19);
+    let b = octets::rest(s, frame_start(width) + FRAME_HEADER);
     if wrong_sections(b) {
         return Decoded::Refused(Refusal::Sections);
     }
-    let withdrawn = octets::number(b, 0, 2) as usize;
-    let attributes = octets::number(b, 2 + withdrawn, 2) as usize;
-    let section = octets::part(b, 4 + withdrawn, attributes);
+    let withdrawn = octets::number(b, 0, SECTION_LENGTH) as usize;
+    let attributes = octets::number(b, SECTION_LENGTH + withdrawn, SECTION_LENGTH) as usize;
+    let section = octets::part(b, SECTION_LENGTHS + withdrawn, attributes);
     if !attributes::sound(section) {
         return Decoded::Refused(Refusal::Attributes);
     }
     if !attributes::bodies_right(section, width) {
         return Decoded::Refused(Refusal::Body);
     }
-    let announced = octets::rest(b, 4 + withdrawn + attributes);
-    if wrong_prefix(octets::part(b, 2, withdrawn), announced) {
+    let announced = octets::rest(b, SECTION_LENGTHS + withdrawn + attributes);
+    if wrong_prefix(octets::part(b, SECTION_LENGTH, withdrawn), announced) {
         return Decoded::Refused(Refusal::Prefix);
     }
-    Decoded::Read(update_parts(s, width, withdrawn, attributes))
-}
-
-// The parts of a message that is no UPDATE: its body isn't read.
-fn other(s: &[u8], width: Width, kind: u32) -> Decoded
-    requires { ⌜ kind ≡ kindField (frame width (now s)) ⌝ }
-    ensures { λ r. ⌜ r ≡ Decoded.Read (otherParts width (now (s .entry))) ⌝ }
-{
-    let start = frame_start(width);
-    let none = Part { start: 0, len: 0 };
-    Decoded::Read(Parts {
-        seconds: octets::number(s, 0, 4),
-        width,
-        peer: octets::number(s, 12, aspath::width_bytes(width)),
-        address: octets::number(s, start - 8, 4),
-        kind,
-        withdrawn: none,
-        attributes: none,
-        announced: none,
-    })
+    Decoded::Read(update_parts(s, width, parts, withdrawn, attributes))
 }
 
 // The checks after the header.
@@ -231,11 +283,12 @@ fn message(s: &[u8], width: Width) -> Decoded
     if wrong_frame(m) {
         return Decoded::Refused(Refusal::Frame);
     }
-    let kind = octets::number(m, 18, 1);
-    if kind == 2 {
-        return update(s, width);
+    let code = octets::number(m, TYPE_AT, TYPE_SIZE);
+    let parts = other_parts(s, width, code);
+    if code == UPDATE {
+        return update(s, width, parts);
     }
-    other(s, width, kind)
+    Decoded::Read(parts)
 }
 
 // The parts of a record's message, or the first refusal of the table that holds.
@@ -245,10 +298,17 @@ pub fn decode(s: &[u8]) -> Decoded
     if wrong_size(s) {
         return Decoded::Refused(Refusal::Size);
     }
-    if wrong_kind(s) {
-        return Decoded::Refused(Refusal::Kind);
+    if wrong_mrt_type(s) {
+        return Decoded::Refused(Refusal::MrtType);
     }
     message(s, width_of(s))
+}
+
+// The bytes of a part of a record, as many as the record has.
+pub fn part_of(s: &[u8], part: Part) -> &[u8]
+    ensures { λ r. ⌜ now r ≡ partOf (now (s .entry)) part ⌝ }
+{
+    octets::part(s, part.start, part.len)
 }
 
 // The number of a refusal.
@@ -257,7 +317,7 @@ pub fn number_of(refusal: Refusal) -> u32
 {
     match refusal {
         Refusal::Size => 11,
-        Refusal::Kind => 12,
+        Refusal::MrtType => 12,
         Refusal::Peer => 13,
         Refusal::Frame => 14,
         Refusal::Sections => 15,

@@ -4,7 +4,10 @@ ghost use lib.ListN.{drop};
 ghost use Rattle.names.specs.Tables.{found};
 ghost use Rattle.names.specs.Names.{typeNames, attributeNames, namedCode};
 
-// The code of a message type's name, 0 where it is none.
+// What is answered for bytes that are no name.
+pub const UNNAMED: u32 = 0;
+
+// The code of a message type's name.
 pub fn type_named(bytes: &[u8]) -> u32
     ensures { λ r. ⌜ namedCode r ≡ found typeNames (now (bytes .entry)) ⌝ }
 {
@@ -23,7 +26,7 @@ pub fn type_named(bytes: &[u8]) -> u32
     if octets::same(bytes, b"ROUTE_REFRESH") {
         return 5;
     }
-    0
+    UNNAMED
 }
 
 // The codes of the attributes' names from 14 on.
@@ -45,10 +48,10 @@ fn later_attribute_named(bytes: &[u8]) -> u32
     if octets::same(bytes, b"LARGE_COMMUNITY") {
         return 32;
     }
-    0
+    UNNAMED
 }
 
-// The code of an attribute's name, 0 where it is none.
+// The code of an attribute's name.
 pub fn attribute_named(bytes: &[u8]) -> u32
     ensures { λ r. ⌜ namedCode r ≡ found attributeNames (now (bytes .entry)) ⌝ }
 {

@@ -4,7 +4,7 @@ use native.Mathlib.Nat.{pow-suc, lt-of-not-le, lt-of-lt-of-le, mod-lt, zero-mul,
 use native.Mathlib.Decide.{decLe}
 use native.Mathlib.Omega.{arith}
 use mathlib.Core.Path.{_≡_, refl, sym, ap, _∙_}
-use mathlib.Core.Bool.{Bool, true, false}
+use mathlib.Core.Bool.{true, false}
 use mathlib.Core.Logic.{⊎-elim, inl, inr, _↔_}
 use lib.Bits.{bitXor, xor-add-and, and-le-l, and-le-r, xor-self, xor-shr, xor-lt}
 use lib.Count.{leadingZeros, leading-length, leading-le}
@@ -12,11 +12,10 @@ use lib.Pow.{pow-pos, pow-mono, split, shr-shr}
 use lib.Dec.{leb, eqb}
 use borrow.Author.Tests.{le-leb, lt-leb, eq-eqb, ne-eqb, leb-true, eqb-true}
 use Rattle.octets.specs.Choice.{pick}
-use Rattle.octets.proofs.Choices.{pick-both, pick-either}
-use Rattle.network.specs.declared.Network.{Network}
+use Rattle.octets.proofs.Choices.{alike, pick-both, pick-either}
 use Rattle.network.specs.declared.Relation.{Relation}
 use Rattle.network.specs.declared.Relation.the-variants.{Exact, Supernet, Subnet, Related}
-use Rattle.network.specs.Networks.{bitAt, FirstBits, Covers, Relates, agree, covers, relates}
+use Rattle.network.specs.Networks.{Network, bitAt, FirstBits, Covers, Relates, agree, covers, relates}
 
 -- numbers that differ in no bit are equal
 xor-eq : (p q : ℕ) → bitXor p q ≡ 0 → p ≡ q
@@ -70,19 +69,15 @@ shared w len a b ha hb = go (decLe len w)
         simp (lt-leb _ _ (lt-of-not-le h)) (lt-leb _ _ k)
 
 -- a network covers none that is shorter
-pub covers-no-shorter : (w : ℕ) (a b : Network) → b .len < a .len → covers w a b ≡ false
+pub covers-no-shorter : (a b : Network) → b .len < a .len → covers a b ≡ false
 unfolding covers
-covers-no-shorter w a b h = go (leb (a .len) w)
-  where
-    go : (t : Bool) → pick t (pick (leb (a .len) (b .len)) (agree w (a .len) (a .address) (b .address)) false) false ≡ false
-    go true = simp (lt-leb _ _ h)
-    go false = refl
+covers-no-shorter a b h = alike (eqb (a .bits) (b .bits)) (alike (leb (a .len) (a .bits)) (simp (lt-leb _ _ h)) refl) refl
 
 -- it covers another where the leading zeros of the exclusive-or are as many as its length
-pub covers-shared : (w : ℕ) (a b : Network) → a .len ≤ b .len → a .address < 2 ^ w → b .address < 2 ^ w
-    → leb (a .len) (leadingZeros w (bitXor (a .address) (b .address))) ≡ covers w a b
+pub covers-shared : (a b : Network) → a .bits ≡ b .bits → a .len ≤ b .len → a .address < 2 ^ a .bits → b .address < 2 ^ a .bits
+    → leb (a .len) (leadingZeros (a .bits) (bitXor (a .address) (b .address))) ≡ covers a b
 unfolding covers
-covers-shared w a b h ha hb = simp (le-leb _ _ h) (shared w (a .len) (a .address) (b .address) ha hb)
+covers-shared a b e h ha hb = simp (eq-eqb _ _ e, le-leb _ _ h) (shared (a .bits) (a .len) (a .address) (b .address) ha hb)
 
 -- ---- the words and the tests
 
@@ -117,43 +112,52 @@ unfolding agree
 agree-means w len a b h ha hb = (λ e. agree-first w len a b h (eqb-true _ _ e), λ f. eq-eqb _ _ (first-agree w len a b h ha hb f))
 
 -- a network that was found to cover another covers it, whatever the addresses are
-covers-sound : (w : ℕ) (a b : Network) → covers w a b ≡ true → Covers w a b
+covers-sound : (a b : Network) → covers a b ≡ true → Covers a b
 unfolding covers agree
-covers-sound w a b e =
-    let p = pick-both _ _ .0 e in
+covers-sound a b e =
+    let f = pick-both _ _ .0 e in
+    let p = pick-both _ _ .0 (f .1) in
     let q = pick-both _ _ .0 (p .1) in
-    let h = leb-true (a .len) w (p .0) in
-    record { sized = h; shorter = leb-true (a .len) (b .len) (q .0); first = agree-first w (a .len) (a .address) (b .address) h (eqb-true _ _ (q .1)) }
+    let h = leb-true (a .len) (a .bits) (p .0) in
+    record {
+      family = eqb-true _ _ (f .0);
+      sized = h;
+      shorter = leb-true (a .len) (b .len) (q .0);
+      first = agree-first (a .bits) (a .len) (a .address) (b .address) h (eqb-true _ _ (q .1));
+    }
 
 -- a network covers another exactly where the test says so
-pub covers-means : (w : ℕ) (a b : Network) → a .address < 2 ^ w → b .address < 2 ^ w → (covers w a b ≡ true) ↔ Covers w a b
+pub covers-means : (a b : Network) → a .address < 2 ^ a .bits → b .address < 2 ^ b .bits → (covers a b ≡ true) ↔ Covers a b
 unfolding covers
-covers-means w a b ha hb = (
-  covers-sound w a b,
+covers-means a b ha hb = (
+  covers-sound a b,
   λ c.
-      pick-both _ _ .1
-      (le-leb _ _ (c .sized), pick-both _ _ .1 (le-leb _ _ (c .shorter), agree-means w (a .len) (a .address) (b .address) (c .sized) ha hb .1 (c .first))),
+      let f = agree-means (a .bits) (a .len) (a .address) (b .address) (c .sized) ha (rw (c .family) hb) .1 (c .first) in
+      pick-both _ _ .1 (eq-eqb _ _ (c .family), pick-both _ _ .1 (le-leb _ _ (c .sized), pick-both _ _ .1 (le-leb _ _ (c .shorter), f))),
 )
 
 -- a prefix that was found to stand to an operand as a relation says does, whatever the addresses are
-pub relates-sound : (w : ℕ) (r : Relation) (operand prefix : Network) → relates w r operand prefix ≡ true → Relates w r operand prefix
+pub relates-sound : (r : Relation) (operand prefix : Network) → relates r operand prefix ≡ true → Relates r operand prefix
 unfolding relates Relates
-relates-sound w Exact o p e = let b = pick-both _ _ .0 e in (eqb-true _ _ (b .0), eqb-true _ _ (b .1))
-relates-sound w Supernet o p e = covers-sound w p o e
-relates-sound w Subnet o p e = covers-sound w o p e
-relates-sound w Related o p e = ⊎-elim (λ k. inl (covers-sound w p o k)) (λ k. inr (covers-sound w o p k)) (pick-either _ _ .0 e)
+relates-sound Exact o p e =
+    let f = pick-both _ _ .0 e in
+    let b = pick-both _ _ .0 (f .1) in
+    (eqb-true _ _ (f .0), eqb-true _ _ (b .0), eqb-true _ _ (b .1))
+relates-sound Supernet o p e = covers-sound p o e
+relates-sound Subnet o p e = covers-sound o p e
+relates-sound Related o p e = ⊎-elim (λ k. inl (covers-sound p o k)) (λ k. inr (covers-sound o p k)) (pick-either _ _ .0 e)
 
 -- and none is missed
-pub relates-complete : (w : ℕ) (r : Relation) (operand prefix : Network) → operand .address < 2 ^ w → prefix .address < 2 ^ w
-    → Relates w r operand prefix → relates w r operand prefix ≡ true
+pub relates-complete : (r : Relation) (operand prefix : Network) → operand .address < 2 ^ operand .bits → prefix .address < 2 ^ prefix .bits
+    → Relates r operand prefix → relates r operand prefix ≡ true
 unfolding relates Relates
-relates-complete w Exact o p ho hp c = pick-both _ _ .1 (eq-eqb _ _ (c .0), eq-eqb _ _ (c .1))
-relates-complete w Supernet o p ho hp c = covers-means w p o hp ho .1 c
-relates-complete w Subnet o p ho hp c = covers-means w o p ho hp .1 c
-relates-complete w Related o p ho hp c =
-    pick-either _ _ .1 (⊎-elim (λ k. inl (covers-means w p o hp ho .1 k)) (λ k. inr (covers-means w o p ho hp .1 k)) c)
+relates-complete Exact o p ho hp c = pick-both _ _ .1 (eq-eqb _ _ (c .0), pick-both _ _ .1 (eq-eqb _ _ (c .1), eq-eqb _ _ (c .2)))
+relates-complete Supernet o p ho hp c = covers-means p o hp ho .1 c
+relates-complete Subnet o p ho hp c = covers-means o p ho hp .1 c
+relates-complete Related o p ho hp c =
+    pick-either _ _ .1 (⊎-elim (λ k. inl (covers-means p o hp ho .1 k)) (λ k. inr (covers-means o p ho hp .1 k)) c)
 
 -- a prefix stands to an operand as a relation says exactly where the test says so
-pub relates-means : (w : ℕ) (r : Relation) (operand prefix : Network) → operand .address < 2 ^ w → prefix .address < 2 ^ w
-    → (relates w r operand prefix ≡ true) ↔ Relates w r operand prefix
-relates-means w r o p ho hp = (relates-sound w r o p, relates-complete w r o p ho hp)
+pub relates-means : (r : Relation) (operand prefix : Network) → operand .address < 2 ^ operand .bits → prefix .address < 2 ^ prefix .bits
+    → (relates r operand prefix ≡ true) ↔ Relates r operand prefix
+relates-means r o p ho hp = (relates-sound r o p, relates-complete r o p ho hp)

@@ -15,8 +15,7 @@ use Rattle.octets.specs.Numbers.{Octets, numberAt, bytesOf}
 use Rattle.octets.proofs.Bytes.{octets-drop, octets-take}
 use Rattle.octets.proofs.Numbers.{number-lt, number-drop, number-take, number-high, pow-bytes}
 use Rattle.octets.proofs.Rows.{Sizes, Reads}
-use Rattle.network.specs.declared.Network.{Network}
-use Rattle.network.specs.Networks.{cleared, masked}
+use Rattle.network.specs.Networks.{Network, cleared, masked}
 use Rattle.network.specs.Wire.{bytesFor, PrefixBytes, prefixSize, networkOf}
 use Rattle.network.proofs.Clearing.{cleared-le, cleared-again, cleared-same}
 use Rattle.octets.proofs.Encode.{bytes-field}
@@ -156,5 +155,5 @@ module _ (w : ℕ) {n : Network} {bytes : List ℕ} (p : PrefixBytes w n bytes) 
 
   pub prefix-clear : n ≡ masked w (n .address) (n .len)
   prefix-clear =
-      let of : ℕ → Network = λ a. record { address = a; len = n .len } in
+      let of : ℕ → Network = λ a. record { bits = w; address = a; len = n .len } in
       p .network ∙ ap of (sym (ap (cleared w (n .len)) address-is ∙ cleared-again w (n .len) (numberAt (p .address) 0 (w / 8))))

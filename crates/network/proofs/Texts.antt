@@ -9,8 +9,7 @@ use lib.ListN.{length, getD, length-append}
 use Rattle.octets.specs.Numbers.{numberAt}
 use Rattle.octets.specs.Decimal.{decimal, digits}
 use Rattle.octets.proofs.Decimal.{digits-few, digits-length}
-use Rattle.network.specs.declared.Network.{Network}
-use Rattle.network.specs.Networks.{cleared}
+use Rattle.network.specs.Networks.{addressBits, Network, cleared}
 use Rattle.network.specs.Wire.{prefixSize, networkOf}
 use Rattle.network.specs.Text.{addressText, networkText}
 use Rattle.network.proofs.Clearing.{cleared-low}
@@ -27,31 +26,31 @@ address-any : (a : ℕ) → length (addressText a) ≤ length (decimal (a / 1677
 address-any a = parts a 3 (digits-few 2 9 _ (omega arith)) (digits-few 2 9 _ (omega arith)) (digits-few 2 9 _ (omega arith))
 
 -- an address has 15 bytes of text at most
-pub addressText-length : (a : ℕ) → a < 2 ^ 32 → length (addressText a) ≤ 15
+pub addressText-length : (a : ℕ) → a < 2 ^ addressBits → length (addressText a) ≤ 15
 addressText-length a h = omega (arith, address-any a, digits-few 2 9 (a / 16777216) (omega arith))
 
 -- an address and a length
-network-any : (n : Network) → n .len ≤ 32 → length (networkText n) ≤ length (addressText (n .address)) + 3
+network-any : (n : Network) → n .len ≤ addressBits → length (networkText n) ≤ length (addressText (n .address)) + 3
 unfolding networkText
 network-any n h = simp length-append (omega (arith, digits-few 1 9 (n .len) (omega arith)))
 
 -- a prefix of n bytes has fewer than 10 n bytes of text: `0.0.0.0/0` is 1 byte, and `255.0.0.0/8` is 2
-pub networkText-cost : (l : List ℕ) → (prefixSize 32 l ≡ 0 → ⊥) → 1 + length (networkText (networkOf 32 l)) ≤ 10 * prefixSize 32 l
+pub networkText-cost : (l : List ℕ) → (prefixSize addressBits l ≡ 0 → ⊥) → 1 + length (networkText (networkOf addressBits l)) ≤ 10 * prefixSize addressBits l
 unfolding networkOf
-networkText-cost l n = go (size-stands 32 l n) (ℕ-discrete (getD l 0 0) 0) (decLe (getD l 0 0) 8)
+networkText-cost l n = go (size-stands addressBits l n) (ℕ-discrete (getD l 0 0) 0) (decLe (getD l 0 0) 8)
   where
-    none : length (networkText (record { address = 0; len = 0 })) ≡ 9
+    none : length (networkText (record { bits = addressBits; address = 0; len = 0 })) ≡ 9
     none = unfold networkText in unfold addressText in unfold digits in refl
 
-    go : Stands 32 l → Dec (getD l 0 0 ≡ 0) → Dec (getD l 0 0 ≤ 8) → 1 + length (networkText (networkOf 32 l)) ≤ 10 * prefixSize 32 l
+    go : Stands addressBits l → Dec (getD l 0 0 ≡ 0) → Dec (getD l 0 0 ≤ 8) → 1 + length (networkText (networkOf addressBits l)) ≤ 10 * prefixSize addressBits l
     go s (yes z) d =
-        let e : networkOf 32 l ≡ record { address = 0; len = 0 } = unfold numberAt in unfold cleared in rw z refl in
+        let e : networkOf addressBits l ≡ record { bits = addressBits; address = 0; len = 0 } = unfold numberAt in unfold cleared in rw z refl in
         omega (arith, s .size, ap (λ (m : Network). length (networkText m)) e, none)
     go s (no z) (yes h) =
-        let a = networkOf 32 l .address in
-        let e : a % 16777216 ≡ 0 = cleared-low 32 (getD l 0 0) 24 _ (omega arith) in
+        let a = networkOf addressBits l .address in
+        let e : a % 16777216 ≡ 0 = cleared-low addressBits (getD l 0 0) 24 _ (omega arith) in
         let t = parts a 1 (digits-few 0 9 _ (omega arith)) (digits-few 0 9 _ (omega arith)) (digits-few 0 9 _ (omega arith)) in
-        omega (arith, s .size, network-any (networkOf 32 l) (s .short), t, digits-length 10 (a / 16777216))
+        omega (arith, s .size, network-any (networkOf addressBits l) (s .short), t, digits-length 10 (a / 16777216))
     go s (no z) (no h) =
-        let a = networkOf 32 l .address in
-        omega (arith, s .size, network-any (networkOf 32 l) (s .short), address-any a, digits-length 10 (a / 16777216), lt-of-not-le h)
+        let a = networkOf addressBits l .address in
+        omega (arith, s .size, network-any (networkOf addressBits l) (s .short), address-any a, digits-length 10 (a / 16777216), lt-of-not-le h)

@@ -2,7 +2,7 @@
 use Prim.Native.Nat.{ℕ, _/_, _%_}
 use mathlib.Core.List.{List, [], _∷_, _++_}
 use Rattle.octets.specs.Decimal.{decimal}
-use Rattle.network.specs.declared.Network.{Network}
+use Rattle.network.specs.Networks.{Network}
 
 -- the four parts of an address in decimal, with dots between
 unfoldable pub addressText : ℕ → List ℕ

@@ -6,8 +6,7 @@ use lib.ListN.{length, getD, take, drop}
 use lib.Dec.{ltb}
 use Rattle.octets.specs.Choice.{pick}
 use Rattle.octets.specs.Numbers.{numberAt, Free}
-use Rattle.network.specs.declared.Network.{Network}
-use Rattle.network.specs.Networks.{masked}
+use Rattle.network.specs.Networks.{Network, masked}
 
 -- as few bytes as hold that many bits
 abbrev pub bytesFor : ℕ → ℕ

@@ -10,5 +10,6 @@ pub mod Rows
 pub mod Encode
 pub mod NumberBytes
 pub mod Every
+pub mod Some
 pub mod Items
 pub mod Ranges

@@ -2,7 +2,6 @@
 pub mod Choice
 pub mod Equal
 pub mod Numbers
-pub mod Header
 pub mod Parts
 pub mod Writes
 pub mod Decimal

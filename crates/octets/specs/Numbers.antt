@@ -13,6 +13,10 @@ unfoldable pub numberAt : List ℕ → ℕ → ℕ → ℕ
 numberAt s at zero = 0
 numberAt s at (suc w) = numberAt s at w * 256 + getD s (at + w) 0
 
+-- the code reads and writes numbers of so many bytes at most
+abbrev pub widestNumber : ℕ
+widestNumber = 4
+
 -- these are w bytes, and the number in them is n
 pub record Field (w n : ℕ) (bytes : List ℕ) : Type 0 where
   pub long : length bytes ≡ w

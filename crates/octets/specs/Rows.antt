@@ -10,7 +10,10 @@ use Rattle.octets.specs.Choice.{pick}
 -- the bytes are those of the items, joined in their order; R says which bytes are an item's
 pub data Joined {A : Type 0} (R : A → List ℕ → Type 0) : List A → List ℕ → Type 0 where
   none : Joined R [] []
-  more : {a : A} {more-items : List A} {bytes rest joined : List ℕ} → R a bytes → Joined R more-items rest → joined ≡ bytes ++ rest → Joined R (a ∷ more-items) joined
+  more : {a : A} {more-items : List A} {bytes rest joined : List ℕ}
+      → R a bytes → Joined R more-items rest → joined ≡ bytes ++ rest → Joined R (a ∷ more-items) joined
+
+-- ---- what the code computes
 
 -- Reading such bytes: size is the number of bytes of the item at the front, 0 where none stands there whole; f bounds the items.
 

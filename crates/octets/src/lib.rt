@@ -6,10 +6,16 @@ ghost use Prim.Native.Nat.{_<_};
 ghost use lib.Dec.{leb};
 ghost use Rattle.octets.specs.Choice.{pick};
 ghost use Rattle.octets.specs.Equal.{same};
-ghost use Rattle.octets.specs.Numbers.{numberAt, bytesOf};
+ghost use Rattle.octets.specs.Numbers.{widestNumber, numberAt, bytesOf};
 ghost use Rattle.octets.specs.Parts.{partAt};
 ghost use Rattle.octets.specs.Writes.{Written};
 ghost use Rattle.octets.specs.Decimal.{decimal};
+
+const WIDEST_NUMBER: usize = 4;
+
+const LAST_PLACE: usize = 18446744073709551615;
+
+const ZERO: u32 = b'0' as u32;
 
 // The byte at a place, 0 past the end.
 fn octet(s: &[u8], at: usize) -> u32
@@ -24,9 +30,9 @@ fn octet(s: &[u8], at: usize) -> u32
 // The number in the width bytes at a place, the most significant first. A byte past the end reads 0, and so does a number of
 // more than four bytes.
 pub fn number(s: &[u8], at: usize, width: usize) -> u32
-    ensures { λ r. ⌜ r ≡ pick (leb width 4) (numberAt (now (s .entry)) at width) 0 ⌝ }
+    ensures { λ r. ⌜ r ≡ pick (leb width widestNumber) (numberAt (now (s .entry)) at width) 0 ⌝ }
 {
-    if 4 < width {
+    if WIDEST_NUMBER < width {
         return 0;
     }
     if s.len() <= at {
@@ -90,7 +96,7 @@ pub fn put(out: &mut [u8], at: usize, b: u8) -> usize
         out[at] = b;
         return at + 1;
     }
-    if at == 18446744073709551615 {
+    if at == LAST_PLACE {
         return at;
     }
     at + 1
@@ -116,23 +122,23 @@ pub fn put_decimal(out: &mut [u8], at: usize, n: u32) -> usize
     ensures { λ r. ⌜ Written (now (out .entry)) at (decimal n) (now (out .exit)) r ⌝ }
 {
     if n < 10 {
-        return put(out, at, (n + 48) as u8);
+        return put(out, at, (n + ZERO) as u8);
     }
     if n < 100 {
-        return put_pair(out, at, (n / 10 + 48) as u8, (n % 10 + 48) as u8);
+        return put_pair(out, at, (n / 10 + ZERO) as u8, (n % 10 + ZERO) as u8);
     }
     let next = put_decimal(out, at, n / 100);
-    put_pair(out, next, (n / 10 % 10 + 48) as u8, (n % 10 + 48) as u8)
+    put_pair(out, next, (n / 10 % 10 + ZERO) as u8, (n % 10 + ZERO) as u8)
 }
 
 // Writes the width bytes of a number, the most significant first; nothing where the width is more than four.
 pub fn put_number(out: &mut [u8], at: usize, n: u32, width: usize) -> usize
-    ensures { λ r. ⌜ Written (now (out .entry)) at (pick (leb width 4) (bytesOf width n) []) (now (out .exit)) r ⌝ }
+    ensures { λ r. ⌜ Written (now (out .entry)) at (pick (leb width widestNumber) (bytesOf width n) []) (now (out .exit)) r ⌝ }
 {
     if width == 0 {
         return at;
     }
-    if 4 < width {
+    if WIDEST_NUMBER < width {
         return at;
     }
     let next = put_number(out, at, n / 256, width - 1);

@@ -5,7 +5,7 @@ use native.Mathlib.Omega.{arith}
 use mathlib.Core.Path.{_≡_, refl, ap, _∙_}
 use mathlib.Core.Bool.{Bool, true, false}
 use mathlib.Core.Option.{none, some}
-use mathlib.Core.List.{List, [], _∷_, _++_, append-assoc, append-nil}
+use mathlib.Core.List.{List, [], _∷_, _++_, append-assoc}
 use lib.Dec.{leb, ltb}
 use lib.ListN.{length, length-append}
 use borrow.Author.Tests.{leb-true, le-leb, ltb-true, lt-ltb, le-ltb}
@@ -16,8 +16,8 @@ use Rattle.operand.specs.Fronts.{read}
 use Rattle.octets.specs.Decimal.{Decimal, digit, more}
 use Rattle.octets.proofs.Every.{every-append}
 use Rattle.operand.specs.Decimals.{Below, isDigit, numberOn, number, numeral}
-use Rattle.operand.proofs.Holding.{Holds, nothing, held, holds-onward, holds-pick}
-use Rattle.operand.proofs.FrontReads.{Got, Run, Stops, end, other, ended-sound}
+use Rattle.operand.proofs.Holding.{AnswerHolds, nothing, held, holds-pick}
+use Rattle.operand.proofs.FrontReads.{Got, Run, Stops, end, other, wholly-sound, wholly-complete}
 
 -- ---- digits
 
@@ -72,7 +72,7 @@ module _ (limit : ℕ) (fresh : Bool) (n b : ℕ) (bs : List ℕ) (e : isDigit b
 -- ---- at the front of a text
 
 -- digits that are taken go on with the decimal
-on-sound : (limit : ℕ) (bs : List ℕ) (n : ℕ) (ys : List ℕ) → Below limit bs n → Holds (Got (Below limit) (bs ++ ys)) (numberOn limit false n ys)
+on-sound : (limit : ℕ) (bs : List ℕ) (n : ℕ) (ys : List ℕ) → Below limit bs n → AnswerHolds (Got (Below limit) (bs ++ ys)) (numberOn limit false n ys)
 unfolding numberOn
 on-sound limit bs n [] x = held (record { text = bs; joined = refl; says = x })
 on-sound limit bs n (y ∷ ys) x =
@@ -85,7 +85,7 @@ on-sound limit bs n (y ∷ ys) x =
         record { decimal = more {l = bs ++ (y ∷ [])} (y - 48) (x .decimal) (leb-true 1 n m) (digit-of y e .1) (rw (digit-of y e .0)); below = ltb-true (10 * n + (y - 48)) limit u }
 
 -- a number that was read stands at the front
-pub number-sound : (limit : ℕ) (l : List ℕ) → Holds (Got (Below limit) l) (number limit l)
+pub number-sound : (limit : ℕ) (l : List ℕ) → AnswerHolds (Got (Below limit) l) (number limit l)
 unfolding number numberOn
 number-sound limit [] = nothing
 number-sound limit (b ∷ bs) =
@@ -117,13 +117,11 @@ number-none limit s = number-stop limit true 0 s
 -- ---- the whole of a text
 
 -- a number that was read is written so and below the limit
-pub numeral-sound : (limit : ℕ) (l : List ℕ) → Holds (Below limit l) (numeral limit l)
+pub numeral-sound : (limit : ℕ) (l : List ℕ) → AnswerHolds (Below limit l) (numeral limit l)
 unfolding numeral
-numeral-sound limit l = holds-onward (number-sound limit l) (λ r g. ended-sound g)
+numeral-sound limit l = wholly-sound (number-sound limit l)
 
 -- and every such number is read
 pub numeral-complete : {limit n : ℕ} {l : List ℕ} → Below limit l n → numeral limit l ≡ some n
 unfolding numeral
-numeral-complete {limit} {n} {l} x =
-    let e : number limit l ≡ some (read n []) = rw (append-nil l) at (number-complete x end) in
-    rw e
+numeral-complete {limit} {n} {l} x = wholly-complete (number limit) l (number-complete x end)

@@ -13,8 +13,8 @@ use Rattle.octets.specs.Lists.{Every, every-none, every-more}
 use Rattle.octets.proofs.Choices.{never}
 use Rattle.token.specs.Next.{run}
 use Rattle.token.proofs.Runs.{run-every}
-use Rattle.operand.proofs.Holding.{Holds, nothing, held, holds-pick}
-use Rattle.operand.specs.Fronts.{Read, read, ended, after, chosen, optional, cut}
+use Rattle.operand.proofs.Holding.{AnswerHolds, nothing, held, holds-onward, holds-pick}
+use Rattle.operand.specs.Fronts.{Read, read, ended, wholly, after, chosen, optional, cut}
 
 -- the text in front of what is left says the value
 pub record Got {A : Type 0} (R : List ℕ → A → Type 0) (l : List ℕ) (r : Read A) : Type 0 where
@@ -28,17 +28,27 @@ got-pick true f g = f refl
 got-pick false f g = g refl
 
 -- what was read and has nothing behind it is what the whole says
-pub ended-sound : {A : Type 0} {R : List ℕ → A → Type 0} {l : List ℕ} {r : Read A} → Got R l r → Holds (R l) (ended (r .rest) (r .value))
+ended-sound : {A : Type 0} {R : List ℕ → A → Type 0} {l : List ℕ} {r : Read A} → Got R l r → AnswerHolds (R l) (ended (r .rest) (r .value))
 ended-sound {A} {R} {l} {r} g = go (r .rest) (g .joined)
   where
-    go : (rest : List ℕ) → l ≡ g .text ++ rest → Holds (R l) (ended rest (r .value))
+    go : (rest : List ℕ) → l ≡ g .text ++ rest → AnswerHolds (R l) (ended rest (r .value))
     go [] e = held {a = r .value} (rw (e, append-nil (g .text)) (g .says))
     go (b ∷ bs) e = nothing
+
+-- the same of an answer
+pub wholly-sound : {A : Type 0} {R : List ℕ → A → Type 0} {l : List ℕ} {o : Option (Read A)} → AnswerHolds (Got R l) o → AnswerHolds (R l) (wholly o)
+wholly-sound h = holds-onward h (λ r g. ended-sound g)
+
+-- and what is read with nothing behind it is what the whole says
+pub wholly-complete : {A : Type 0} (reader : List ℕ → Option (Read A)) (l : List ℕ) {x : A} → reader (l ++ []) ≡ some (read x []) → wholly (reader l) ≡ some x
+wholly-complete reader l {x} h =
+    let e : reader l ≡ some (read x []) = rw (append-nil l) at h in
+    rw e
 
 -- ---- one byte
 
 -- the byte stood at the front
-pub after-sound : (b : ℕ) (l : List ℕ) → Holds (λ (r : List ℕ). l ≡ b ∷ r) (after b l)
+pub after-sound : (b : ℕ) (l : List ℕ) → AnswerHolds (λ (r : List ℕ). l ≡ b ∷ r) (after b l)
 unfolding after
 after-sound b [] = nothing
 after-sound b (x ∷ xs) = holds-pick (eqb x b) (λ e. held (ap (λ (y : ℕ). y ∷ xs) (eqb-true x b e))) (λ e. nothing)
@@ -53,7 +63,7 @@ pub optional-sound : (b : ℕ) (l : List ℕ) → l ≡ pick (optional b l .valu
 unfolding optional
 optional-sound b l = go (after-sound b l)
   where
-    go : {o : Option (List ℕ)} → Holds (λ (r : List ℕ). l ≡ b ∷ r) o → l ≡ pick (chosen l o .value) (b ∷ []) [] ++ chosen l o .rest
+    go : {o : Option (List ℕ)} → AnswerHolds (λ (r : List ℕ). l ≡ b ∷ r) o → l ≡ pick (chosen l o .value) (b ∷ []) [] ++ chosen l o .rest
     go nothing = refl
     go (held e) = e
 
@@ -67,7 +77,7 @@ pub optional-not : (b : ℕ) {l : List ℕ} → ((r : List ℕ) → l ≡ b ∷ 
 unfolding optional
 optional-not b {l} f = go (after-sound b l)
   where
-    go : {o : Option (List ℕ)} → Holds (λ (r : List ℕ). l ≡ b ∷ r) o → chosen l o ≡ read false l
+    go : {o : Option (List ℕ)} → AnswerHolds (λ (r : List ℕ). l ≡ b ∷ r) o → chosen l o ≡ read false l
     go nothing = refl
     go (held {a} e) = absurd (f a e)
 

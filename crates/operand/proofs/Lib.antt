@@ -1,4 +1,5 @@
 -- Laws of operands. Assumes nothing.
+pub mod AsNumberLaws
 pub mod Blanks
 pub mod Decimals
 pub mod Fractions
@@ -14,6 +15,8 @@ pub mod OperandNetworks
 pub mod OperandPatterns
 pub mod OperandPeers
 pub mod OperandTimes
+pub mod PartedLaws
+pub mod PartedPlaces
 pub mod PatternMeant
 pub mod PatternReads
 pub mod Places

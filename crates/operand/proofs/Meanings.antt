@@ -4,7 +4,7 @@ use mathlib.Core.Path.{_≡_}
 use mathlib.Core.Option.{some}
 use mathlib.Core.List.{List}
 use Rattle.program.specs.Readings.{Test}
-use Rattle.operand.proofs.Holding.{Holds, held, holds-onward, holds-some, some-once}
+use Rattle.operand.proofs.Holding.{AnswerHolds, held, holds-onward, holds-some, some-once}
 use Rattle.operand.proofs.OperandCodes.{coded-sound, coded-complete, types-tell, attributes-tell}
 use Rattle.operand.proofs.OperandNetworks.{networkOperand-sound, networkOperand-complete}
 use Rattle.operand.proofs.OperandPatterns.{pattern-sound, pattern-complete}
@@ -16,7 +16,7 @@ use Rattle.operand.specs.declared.Name.the-variants.{MessageType as type
 use Rattle.operand.specs.Tests.{StandsFor, type, attribute, path, peer, network, time, meaning}
 
 -- what is found is meant
-meaning-holds : (k : Name) (v : List ℕ) → Holds (StandsFor k v) (meaning k v)
+meaning-holds : (k : Name) (v : List ℕ) → AnswerHolds (StandsFor k v) (meaning k v)
 unfolding meaning
 meaning-holds typeName v = holds-onward (coded-sound typeNames v) (λ c x. held (type x))
 meaning-holds attributeName v = holds-onward (coded-sound attributeNames v) (λ c x. held (attribute x))

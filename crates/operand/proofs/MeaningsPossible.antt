@@ -9,10 +9,9 @@ use lib.Dec.{ltb}
 use lib.ListN.{length}
 use borrow.Author.Tests.{ltb-true}
 use Rattle.octets.specs.Choice.{pick}
-use Rattle.octets.specs.Lists.{Every, every-none, every-more}
 use Rattle.octets.proofs.Choices.{each}
 use Rattle.octets.proofs.Ranges.{within}
-use Rattle.network.specs.declared.Network.{Network}
+use Rattle.network.specs.Networks.{addressBits, Network}
 use Rattle.network.proofs.Clearing.{cleared-le, cleared-again}
 use Rattle.aspath.specs.declared.Item.{Item}
 use Rattle.aspath.specs.Patterns.{Pattern}
@@ -25,9 +24,11 @@ use Rattle.names.specs.Names.{typeNames, attributeNames}
 use Rattle.operand.specs.Codes.{CodeOperand, by-name, by-code}
 use Rattle.operand.specs.Addresses.{Address, NetworkText, NetworkOperand, plain, plus, minus}
 use Rattle.operand.specs.Peers.{PeerOperand, by-as, by-address, by-both}
-use Rattle.operand.specs.Patterns.{empty, ItemText, a-number, not-it, any, ItemsText, last, more, PatternOperand}
-use Rattle.operand.specs.Times.{FractionText, whole, fraction, TimeOperand}
+use Rattle.operand.specs.Patterns.{ItemText, a-number, not-it, any, PatternOperand}
+use Rattle.operand.specs.Times.{fractionDigits, FractionText, whole, fraction, TimeOperand}
 use Rattle.operand.specs.declared.Name.{Name}
+use Rattle.operand.proofs.AsNumberLaws.{as-below}
+use Rattle.operand.proofs.PartedLaws.{every-parted}
 use Rattle.operand.specs.Tests.{StandsFor, type, attribute, path, peer, network, time}
 
 -- ---- codes
@@ -69,8 +70,8 @@ network-possible : {l : List ℕ} {n : Network} → NetworkText l n → NetworkP
 network-possible x =
     rw (x .value) (record {
       sized = omega (arith, x .len-is .below);
-      word = record { below = omega (arith, cleared-le 32 (x .len) (x .address), address-word (x .address-is) .below) };
-      clear = ap (λ (a : ℕ). record { address = a; len = x .len }) (sym (cleared-again 32 (x .len) (x .address)));
+      word = record { below = omega (arith, cleared-le addressBits (x .len) (x .address), address-word (x .address-is) .below) };
+      clear = ap (λ (a : ℕ). record { bits = addressBits; address = a; len = x .len }) (sym (cleared-again addressBits (x .len) (x .address)));
     })
 
 -- on either side
@@ -81,27 +82,21 @@ side-possible (minus t) = network-possible t
 
 -- a peer's numbers have 32 bits
 peer-possible : {l : List ℕ} {p : Peer} → PeerOperand l p → PeerPossible p
-peer-possible (by-as b) = record { below = b .below }
+peer-possible (by-as b) = record { below = as-below b }
 peer-possible (by-address x) = address-word x
-peer-possible (by-both x g h b e) = (address-word x, record { below = b .below })
+peer-possible (by-both x g h b e) = (address-word x, record { below = as-below b })
 
 -- ---- patterns
 
 -- an item's number has 32 bits
 item-possible : {l : List ℕ} {i : Item} → ItemText l i → ItemPossible i
-item-possible (a-number b) = record { below = b .below }
-item-possible (not-it b) = record { below = b .below }
+item-possible (a-number b) = record { below = as-below b }
+item-possible (not-it b) = record { below = as-below b }
 item-possible any = tt
-
--- and those of all items
-items-possible : {l : List ℕ} {is : List Item} → ItemsText l is → Every ItemPossible is
-items-possible empty = every-none
-items-possible (last t) = every-more (item-possible t) every-none
-items-possible (more t g h x e) = every-more (item-possible t) (items-possible x)
 
 -- a pattern has an item, `^` or `$`
 pattern-possible : {l : List ℕ} {p : Pattern} → PatternOperand l p → PatternPossible p
-pattern-possible {p = p} x = record { each = items-possible (x .items-are); some = λ s e i. x .not-empty s e (no-items (p .items) i) }
+pattern-possible {p = p} x = record { each = every-parted (λ bs i t. item-possible t) (x .items-are); some = λ s e i. x .not-empty s e (no-items (p .items) i) }
   where
     no-items : (is : List Item) → length is ≡ 0 → is ≡ []
     no-items [] h = refl
@@ -118,8 +113,8 @@ digits-below (more {n} {m} {bs} d h x) =
     omega (arith, digits-below x)
 
 -- six digits at most are below a million
-micros-below : (n k : ℕ) → k ≤ 6 → n < 10 ^ k → n * 10 ^ (6 - k) < 1000000
-micros-below n k h = within 6 (λ (k : ℕ). n < 10 ^ k → n * 10 ^ (6 - k) < 1000000) k h
+micros-below : (n k : ℕ) → k ≤ fractionDigits → n < 10 ^ k → n * 10 ^ (fractionDigits - k) < 1000000
+micros-below n k h = within fractionDigits (λ (k : ℕ). n < 10 ^ k → n * 10 ^ (fractionDigits - k) < 1000000) k h
     (λ l. omega arith) (λ l. omega arith) (λ l. omega arith) (λ l. omega arith) (λ l. omega arith) (λ l. omega arith) (λ l. omega arith)
 
 -- a fraction is below a million microseconds

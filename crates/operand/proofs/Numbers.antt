@@ -2,12 +2,12 @@
 use Prim.Native.Nat.{ℕ, _+_, _-_, _*_, _≤_, _<_}
 use native.Mathlib.Omega.{arith}
 use native.Mathlib.Numerals.{add-one}
-use mathlib.Core.Path.{_≡_, refl, sym, ap, _∙_}
+use mathlib.Core.Path.{_≡_, refl, sym, _∙_}
 use mathlib.Core.Bool.{Bool, true, false}
 use mathlib.Core.Option.{Option, none, some}
 use mathlib.Core.List.{List}
 use lib.Dec.{leb}
-use lib.ListN.{length, getD, drop, length-append, length-drop}
+use lib.ListN.{length, getD, drop}
 use lib.Seq.{drop-cons}
 use borrow.Author.Tests.{leb-false}
 use Rattle.octets.specs.Choice.{pick}
@@ -15,9 +15,8 @@ use Rattle.operand.specs.Fronts.{Read, read}
 use Rattle.operand.specs.Decimals.{isDigit, numberOn, number, leftAt, valueOf, ReadAt}
 use Rattle.operand.specs.declared.Number.{Number}
 use Rattle.operand.specs.declared.Number.the-variants.{Read as readTo, Missing as missing}
-use Rattle.operand.proofs.Holding.{holds-some}
 use Rattle.operand.proofs.FrontReads.{Stops}
-use Rattle.operand.proofs.Decimals.{decimal-some, number-sound, number-stop, digit-zero, digit-over, digit-taken}
+use Rattle.operand.proofs.Decimals.{number-stop, digit-zero, digit-over, digit-taken}
 
 -- two answers that can't be the same
 pub not-read : {P : Type 0} {v e : ℕ} → missing ≡ readTo v e → P
@@ -56,12 +55,6 @@ number-ends s at limit w n {r} i st h k e = go (leb w at) (leb-false w at) e (sy
     go : (b : Bool) → (b ≡ false → at < w) → r ≡ pick b missing (readTo n w) → pick b none (some (read n (drop w s))) ≡ number limit (drop at s) → ReadAt (number limit) s at limit r
     go true f e j = rw e (read-none (number limit) s at limit (sym j))
     go false f e j = rw e (read-some (number limit) s at limit n w (sym j) h (k (f refl)))
-
--- a number that was read ends behind its place
-pub number-moves : {s : List ℕ} {at limit : ℕ} {r : Number} → ReadAt (number limit) s at limit r → {v e : ℕ} → r ≡ readTo v e → at < e
-number-moves {s} {at} {limit} x {v} {e} z =
-    let g = holds-some (number-sound limit (drop at s)) (said-some s (x .said) z) in
-    omega (arith, decimal-some (g .says .decimal), ap length (g .joined), length-append (g .text) (drop e s), length-drop at s, length-drop e s, x .ends v e z .0)
 
 -- a digit at a place
 module _ (s : List ℕ) (limit : ℕ) (fresh : Bool) (n w : ℕ) (h : w < length s) (e : isDigit (getD s w 0) ≡ true) where

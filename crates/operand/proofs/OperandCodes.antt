@@ -8,24 +8,24 @@ use Rattle.octets.specs.Choice.{pick}
 use Rattle.octets.specs.Equal.{same}
 use Rattle.octets.proofs.Choices.{never, each}
 use Rattle.octets.proofs.Equals.{same-true}
-use Rattle.operand.proofs.Holding.{Holds, holds-of, holds-else, holds-map}
+use Rattle.operand.proofs.Holding.{AnswerHolds, holds-of, holds-else, holds-map}
 use Rattle.names.proofs.Finding.{missing, distinct, found-sound, found-row}
 use Rattle.operand.proofs.Decimals.{numeral-sound, numeral-complete}
 use Rattle.names.specs.Tables.{Row, found}
 use Rattle.names.specs.Names.{typeNames, attributeNames}
 use Rattle.names.proofs.NamesDiffer.{types-differ, attributes-differ}
 use Rattle.operand.specs.Codes.{CodeOperand, by-name, by-code, coded}
-use Rattle.operand.specs.Decimals.{isDigit, numberOn, number, numeral}
+use Rattle.operand.specs.Decimals.{byteLimit, isDigit, numberOn, number, numeral}
 
 -- a code that was found is meant
-pub coded-sound : (names : List (Row ℕ)) (l : List ℕ) → Holds (CodeOperand names l) (coded names l)
+pub coded-sound : (names : List (Row ℕ)) (l : List ℕ) → AnswerHolds (CodeOperand names l) (coded names l)
 unfolding coded
-coded-sound names l = holds-else (holds-of (found names l) (λ a e. by-name (found-sound names l e))) (holds-map (λ a b. by-code b) (numeral-sound 256 l))
+coded-sound names l = holds-else (holds-of (found names l) (λ a e. by-name (found-sound names l e))) (holds-map (λ a b. by-code b) (numeral-sound byteLimit l))
 
 -- no name is a code
 unfoldable pub lettered : List (Row ℕ) → Bool
 lettered [] = true
-lettered (n ∷ ns) = pick (missing (numeral 256 (n .word))) (lettered ns) false
+lettered (n ∷ ns) = pick (missing (numeral byteLimit (n .word))) (lettered ns) false
 
 -- the names of a table tell codes apart: they differ and none is a code
 pub record Telling (names : List (Row ℕ)) : Type 0 where
@@ -33,16 +33,16 @@ pub record Telling (names : List (Row ℕ)) : Type 0 where
   pub letters : lettered names ≡ true
 
 -- so a code is no name
-found-none : (names : List (Row ℕ)) (l : List ℕ) {n : ℕ} → lettered names ≡ true → numeral 256 l ≡ some n → found names l ≡ none
+found-none : (names : List (Row ℕ)) (l : List ℕ) {n : ℕ} → lettered names ≡ true → numeral byteLimit l ≡ some n → found names l ≡ none
 unfolding found lettered
 found-none [] l t e = refl
-found-none (r ∷ rs) l {n} t e = go (each (missing (numeral 256 (r .word))) (lettered rs) t) (λ u. found-none rs l u e) (same l (r .word)) (same-true l (r .word))
+found-none (r ∷ rs) l {n} t e = go (each (missing (numeral byteLimit (r .word))) (lettered rs) t) (λ u. found-none rs l u e) (same l (r .word)) (same-true l (r .word))
   where
-    go : (missing (numeral 256 (r .word)) ≡ true) × (lettered rs ≡ true) → (lettered rs ≡ true → found rs l ≡ none)
+    go : (missing (numeral byteLimit (r .word)) ≡ true) × (lettered rs ≡ true) → (lettered rs ≡ true → found rs l ≡ none)
         → (b : Bool) → (b ≡ true → l ≡ r .word) → pick b (some (r .value)) (found rs l) ≡ none
     go m ih false f = ih (m .1)
     go m ih true f =
-        let d : numeral 256 (r .word) ≡ some n = rw (← f refl) e in
+        let d : numeral byteLimit (r .word) ≡ some n = rw (← f refl) e in
         never (rw d at (m .0))
 
 -- every code is found

@@ -1,14 +1,14 @@
 -- Networks and their sides: decided, and at most one. Assumes nothing.
-use Prim.Native.Nat.{ℕ}
+use Prim.Native.Nat.{ℕ, _+_}
 use mathlib.Core.Path.{_≡_, refl, _∙_}
 use mathlib.Core.Bool.{false}
 use mathlib.Core.Option.{some}
 use mathlib.Core.List.{List, _∷_, _++_, append-assoc}
 use lib.Dec.{eqb}
 use lib.ListN.{getD, drop}
-use Rattle.network.specs.declared.Network.{Network}
+use Rattle.network.specs.Networks.{addressBits, Network}
 use Rattle.program.specs.Readings.{Side}
-use Rattle.operand.proofs.Holding.{Holds, held, holds-onward, holds-pick}
+use Rattle.operand.proofs.Holding.{AnswerHolds, held, holds-onward, holds-pick}
 use Rattle.operand.proofs.FrontReads.{other, after-sound, after-complete, first-is}
 use Rattle.operand.proofs.Decimals.{numeral-sound, numeral-complete}
 use Rattle.operand.proofs.Blanks.{decimal-first}
@@ -17,10 +17,10 @@ use Rattle.operand.specs.Addresses.{NetworkText, NetworkOperand, plain, 
 use Rattle.operand.specs.Decimals.{isDigit}
 
 -- a network that was read is written so
-network-sound : (l : List ℕ) → Holds (NetworkText l) (networkRead l)
+network-sound : (l : List ℕ) → AnswerHolds (NetworkText l) (networkRead l)
 unfolding networkRead
 network-sound l =
-    holds-onward (address-sound l) (λ a g. holds-onward (after-sound 47 (a .rest)) (λ r e. holds-onward (numeral-sound 33 r) (λ n b.
+    holds-onward (address-sound l) (λ a g. holds-onward (after-sound 47 (a .rest)) (λ r e. holds-onward (numeral-sound (addressBits + 1) r) (λ n b.
     held (record { address = a .value; len = n; addressText = g .text; lenText = r; joined = rw (← e) (g .joined); address-is = g .says; len-is = b; value = refl }))))
 
 -- and every network is read
@@ -32,7 +32,7 @@ network-complete x =
 -- ---- with a side
 
 -- a network and side that were read are meant
-pub networkOperand-sound : (l : List ℕ) → Holds (λ (x : Sided). NetworkOperand l (x .side) (x .network)) (networkOperand l)
+pub networkOperand-sound : (l : List ℕ) → AnswerHolds (λ (x : Sided). NetworkOperand l (x .side) (x .network)) (networkOperand l)
 unfolding networkOperand
 networkOperand-sound l =
     holds-pick (eqb (getD l 0 0) 43) (λ e. holds-onward (network-sound (drop 1 l)) (λ n t. held (rw (first-is 43 l refl e) (plus t))))

@@ -1,5 +1,5 @@
 -- Patterns of AS paths: decided, and at most one. Assumes nothing.
-use Prim.Native.Nat.{ℕ, _^_}
+use Prim.Native.Nat.{ℕ}
 use native.Mathlib.Omega.{arith}
 use mathlib.Core.Path.{_≡_, refl, sym, ap, _∙_}
 use mathlib.Core.Bool.{Bool, true, false}
@@ -12,12 +12,14 @@ use Rattle.octets.proofs.Every.{every-append}
 use Rattle.aspath.specs.declared.Item.{Item}
 use Rattle.aspath.specs.Patterns.{Pattern}
 use Rattle.token.specs.Texts.{Blank}
-use Rattle.operand.proofs.Holding.{Holds, nothing, held, holds-pick, holds-some}
+use Rattle.operand.proofs.Holding.{AnswerHolds, nothing, held, holds-pick, holds-some}
 use Rattle.operand.proofs.FrontReads.{end, other, optional-sound, optional-yes, optional-not, cut-joined, cut-run, cut-exact, cut-again}
 use Rattle.operand.proofs.Blanks.{blanks-sound, blanks-complete}
-use Rattle.operand.proofs.Decimals.{number-none}
-use Rattle.operand.proofs.OperandItems.{Listed, at-end, dollar, items-sound, items-complete}
-use Rattle.operand.specs.Patterns.{ItemsText, PatternOperand, itemRead, itemsRead, allItems, notEmpty, patternClosed, patternOpened, patternItems, patternOperand, itemsAtFront}
+use Rattle.operand.proofs.AsNumberLaws.{as-none}
+use Rattle.operand.proofs.PartedLaws.{Listed, parted-sound, parted-complete}
+use Rattle.operand.proofs.OperandItems.{item-reads, end-closes, dollar-closes}
+use Rattle.operand.specs.Patterns.{ItemText, PatternOperand, itemRead, notEmpty, patternClosed, patternOpened, patternItems, patternOperand}
+use Rattle.operand.specs.Parted.{PartedText, partedRead, allParted}
 use Rattle.operand.specs.Fronts.{Read, read, ended, after, optional, cut}
 use Rattle.token.specs.Next.{isBlank}
 use Rattle.operand.specs.Decimals.{isDigit}
@@ -35,16 +37,16 @@ chain : {l m n o p q r : List ℕ} (a b c d e f g : List ℕ) → l ≡ a ++ m �
 chain a b c d e f g s t u v w x y = rw (s, t, u, v, w, x, y, append-nil g)
 
 -- a pattern that was read is meant
-pub pattern-sound : (l : List ℕ) → Holds (PatternOperand l) (patternOperand l)
+pub pattern-sound : (l : List ℕ) → AnswerHolds (PatternOperand l) (patternOperand l)
 unfolding patternOperand
-pattern-sound l = holds-pick _ (λ t. go (patternItems l) (items-sound _ m) t (cut isBlank (optional 36 (patternItems l .rest) .rest) .rest) refl) (λ t. nothing)
+pattern-sound l = holds-pick _ (λ t. go (patternItems l) (parted-sound item-reads _ m) t (cut isBlank (optional 36 (patternItems l .rest) .rest) .rest) refl) (λ t. nothing)
   where
     m : List ℕ
     m = cut isBlank (patternOpened l .rest) .rest
 
-    go : (is : Read (List Item)) → Listed m is → notEmpty (patternOpened l .value) (is .value) (optional 36 (is .rest) .value) ≡ true
+    go : (is : Read (List Item)) → Listed ItemText m is → notEmpty (patternOpened l .value) (is .value) (optional 36 (is .rest) .value) ≡ true
         → (left : List ℕ) → cut isBlank (optional 36 (is .rest) .rest) .rest ≡ left
-        → Holds (PatternOperand l) (ended left (record { start = patternOpened l .value; items = is .value; end = optional 36 (is .rest) .value }))
+        → AnswerHolds (PatternOperand l) (ended left (record { start = patternOpened l .value; items = is .value; end = optional 36 (is .rest) .value }))
     go is x t (b ∷ bs) e = nothing
     go is x t [] e = held (record {
       before = cut isBlank l .value;
@@ -68,12 +70,12 @@ left true l = 36 ∷ l
 left false l = []
 
 -- the items of a pattern are read up to what is left
-items-left : (e : Bool) {before text behind after′ : List ℕ} {is : List Item} → Every Blank before → ItemsText text is → Every Blank behind → Every Blank after′
-    → allItems (cut isBlank (before ++ (text ++ (behind ++ (pick e (36 ∷ []) [] ++ after′)))) .rest) ≡ read is (left e after′)
-items-left true b x k a = items-complete b x k dollar
+items-left : (e : Bool) {before text behind after′ : List ℕ} {is : List Item} → Every Blank before → PartedText ItemText text is → Every Blank behind → Every Blank after′
+    → allParted itemRead (cut isBlank (before ++ (text ++ (behind ++ (pick e (36 ∷ []) [] ++ after′)))) .rest) ≡ read is (left e after′)
+items-left true {after′ = after′} b x k a = parted-complete item-reads b x k (dollar-closes after′)
 items-left false {before} {text} {behind} {after′} b x k a =
     let z : behind ++ after′ ≡ (behind ++ after′) ++ [] = sym (append-nil (behind ++ after′)) in
-    rw z (items-complete b x (every-append k a) at-end)
+    rw z (parted-complete item-reads b x (every-append k a) end-closes)
 
 -- a pattern that is not wholly empty is found so
 notEmpty-of : (s e : Bool) (is : List Item) → (s ≡ false → e ≡ false → is ≡ [] → ⊥) → notEmpty s is e ≡ true
@@ -96,17 +98,17 @@ closed-complete s false is a f = rw (optional-not 36 {l = []} (λ r e. no-byte e
 
 -- from the items on a pattern is read
 opened-complete : (s e : Bool) (l : List ℕ) {m after′ : List ℕ} {is : List Item} → Every Blank after′ → (s ≡ false → e ≡ false → is ≡ [] → ⊥)
-    → patternOpened l ≡ read s m → allItems (cut isBlank m .rest) ≡ read is (left e after′) → patternOperand l ≡ some (record { start = s; items = is; end = e })
+    → patternOpened l ≡ read s m → allParted itemRead (cut isBlank m .rest) ≡ read is (left e after′) → patternOperand l ≡ some (record { start = s; items = is; end = e })
 unfolding patternOperand
 opened-complete s e l {is = is} a h o r = rw (o, r) (closed-complete s e is a h)
 
 -- at `^` no items are read
-caret : (r : List ℕ) → allItems (94 ∷ r) ≡ read [] (94 ∷ r)
-unfolding itemsRead itemRead isDigit after
-caret r = rw (number-none (2 ^ 32) {l = 94 ∷ r} (other refl))
+caret : (r : List ℕ) → allParted itemRead (94 ∷ r) ≡ read [] (94 ∷ r)
+unfolding partedRead itemRead isDigit after
+caret r = rw (as-none {l = 94 ∷ r} (other refl))
 
 -- so no items start with it
-no-caret : (e : Bool) (m after′ : List ℕ) {is : List Item} → allItems m ≡ read is (left e after′) → (r : List ℕ) → m ≡ 94 ∷ r → ⊥
+no-caret : (e : Bool) (m after′ : List ℕ) {is : List Item} → allParted itemRead m ≡ read is (left e after′) → (r : List ℕ) → m ≡ 94 ∷ r → ⊥
 no-caret e m after′ {is} h r z = go e (ap (λ (t : Read (List Item)). t .rest) (sym (rw z at h) ∙ caret r))
   where
     go : (e : Bool) → left e after′ ≡ 94 ∷ r → ⊥
@@ -114,7 +116,7 @@ no-caret e m after′ {is} h r z = go e (ap (λ (t : Read (List Item)). t .rest)
     go false x = no-byte x
 
 -- a sign in front
-pattern-by : (s e : Bool) {before between text behind after′ : List ℕ} {is : List Item} → Every Blank before → Every Blank between → ItemsText text is → Every Blank behind → Every Blank after′
+pattern-by : (s e : Bool) {before between text behind after′ : List ℕ} {is : List Item} → Every Blank before → Every Blank between → PartedText ItemText text is → Every Blank behind → Every Blank after′
     → (s ≡ false → e ≡ false → is ≡ [] → ⊥)
     → patternOperand (before ++ (pick s (94 ∷ []) [] ++ (between ++ (text ++ (behind ++ (pick e (36 ∷ []) [] ++ after′)))))) ≡ some (record { start = s; items = is; end = e })
 unfolding isBlank
@@ -124,7 +126,7 @@ pattern-by true e {between = between} {text} {behind} {after′} b c x k a n =
 pattern-by false e {before} {between} {text} {behind} {after′} {is} b c x k a n =
     let w : List ℕ = text ++ (behind ++ (pick e (36 ∷ []) [] ++ after′)) in
     let m : List ℕ = cut isBlank (before ++ (between ++ w)) .rest in
-    let r : allItems m ≡ read is (left e after′) = rw (← (append-assoc before between w)) (items-left e (every-append b c) x k a) in
+    let r : allParted itemRead m ≡ read is (left e after′) = rw (← (append-assoc before between w)) (items-left e (every-append b c) x k a) in
     opened-complete false e _ {m = m} a n (optional-not 94 (no-caret e m after′ r)) (rw (cut-again isBlank (before ++ (between ++ w))) r)
 
 -- no pattern is missed
@@ -132,12 +134,12 @@ pub pattern-complete : {l : List ℕ} {p : Pattern} → PatternOperand l p → p
 pattern-complete {l} {p} x = rw (← (x .joined)) at (pattern-by (p .start) (p .end) (x .before-blank) (x .between-blank) (x .items-are) (x .behind-blank) (x .after-blank) (x .not-empty))
 
 -- the items of an operand that is a pattern are the pattern's
-pub items-in : (v : List ℕ) {p : Pattern} → patternOperand v ≡ some p → itemsAtFront v ≡ p .items
-unfolding patternOperand itemsAtFront
+pub items-in : (v : List ℕ) {p : Pattern} → patternOperand v ≡ some p → patternItems v .value ≡ p .items
+unfolding patternOperand
 items-in v h =
     let e = optional 36 (patternItems v .rest) in
     holds-some (holds-pick (notEmpty (patternOpened v .value) (patternItems v .value) (e .value)) (λ t. go (e .value) (cut isBlank (e .rest) .rest)) (λ t. nothing)) h
   where
-    go : (e : Bool) (rest : List ℕ) → Holds (λ (q : Pattern). patternItems v .value ≡ q .items) (ended rest (record { start = patternOpened v .value; items = patternItems v .value; end = e }))
+    go : (e : Bool) (rest : List ℕ) → AnswerHolds (λ (q : Pattern). patternItems v .value ≡ q .items) (ended rest (record { start = patternOpened v .value; items = patternItems v .value; end = e }))
     go e [] = held refl
     go e (b ∷ bs) = nothing

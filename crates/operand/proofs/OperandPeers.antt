@@ -1,5 +1,5 @@
 -- Peers: an AS number, an address, or both; decided, and at most one. Assumes nothing.
-use Prim.Native.Nat.{ℕ, _^_, _≤_}
+use Prim.Native.Nat.{ℕ, _≤_}
 use native.Mathlib.Omega.{arith}
 use mathlib.Core.Path.{_≡_, refl, _∙_}
 use mathlib.Core.Option.{Option, none, some}
@@ -15,28 +15,30 @@ use Rattle.token.specs.Next.{isBlank}
 use Rattle.operand.specs.Decimals.{isDigit}
 use Rattle.operand.specs.Addresses.{Address, addressRead}
 use Rattle.operand.specs.Peers.{PeerOperand, by-as, by-address, by-both, behindAddress, peerBy, peerOperand}
-use Rattle.operand.proofs.Holding.{Holds, nothing, held, holds-onward, holds-pick}
+use Rattle.operand.proofs.Holding.{AnswerHolds, nothing, held, holds-onward, holds-pick}
 use Rattle.operand.proofs.FrontReads.{Got, Run, end, cut-joined, cut-run, cut-exact}
-use Rattle.operand.proofs.Decimals.{decimal-run, numeral-sound, numeral-complete}
+use Rattle.operand.specs.AsNumbers.{plain}
+use Rattle.operand.proofs.Decimals.{decimal-run}
+use Rattle.operand.proofs.AsNumberLaws.{as-stops, as-numeral-sound, as-numeral-complete}
 use Rattle.token.proofs.ByteTests.{blank-sound, blank-complete}
-use Rattle.operand.proofs.Blanks.{blanks-sound, blanks-complete, digit-no-blank, blank-stops, decimal-stops}
+use Rattle.operand.proofs.Blanks.{blanks-sound, blanks-complete, digit-no-blank, blank-stops}
 use Rattle.operand.proofs.OperandAddresses.{address-sound, address-complete}
 
 -- a peer that was read is meant
-pub peer-sound : (l : List ℕ) → Holds (PeerOperand l) (peerOperand l)
+pub peer-sound : (l : List ℕ) → AnswerHolds (PeerOperand l) (peerOperand l)
 unfolding peerOperand behindAddress
 peer-sound l = go (address-sound l)
   where
-    behind : (a : ℕ) (text rest : List ℕ) → l ≡ text ++ rest → Address text a → Holds (PeerOperand l) (behindAddress a rest)
+    behind : (a : ℕ) (text rest : List ℕ) → l ≡ text ++ rest → Address text a → AnswerHolds (PeerOperand l) (behindAddress a rest)
     behind a text [] j x = held (by-address {bs = l} {a = a} (rw (j, append-nil text) x))
     behind a text (b ∷ bs) j x =
         holds-pick (isBlank b)
-        (λ e. holds-onward (numeral-sound (2 ^ 32) (cut isBlank bs .rest))
+        (λ e. holds-onward (as-numeral-sound (cut isBlank bs .rest))
         (λ n c. held (by-both x (every-more (blank-sound b e) (blanks-sound (cut-run isBlank bs))) (omega arith) c (rw (← (cut-joined isBlank bs)) j))))
         (λ e. nothing)
 
-    go : {o : Option (Read ℕ)} → Holds (Got Address l) o → Holds (PeerOperand l) (peerBy l o)
-    go nothing = holds-onward (numeral-sound (2 ^ 32) l) (λ n b. held (by-as b))
+    go : {o : Option (Read ℕ)} → AnswerHolds (Got Address l) o → AnswerHolds (PeerOperand l) (peerBy l o)
+    go nothing = holds-onward (as-numeral-sound l) (λ n b. held (by-as b))
     go (held {a} g) = behind (a .value) (g .text) (a .rest) (g .joined) (g .says)
 
 -- a byte of a run passes
@@ -49,7 +51,7 @@ no-address : {l : List ℕ} → Run isDigit l → addressRead l ≡ none
 unfolding isDigit
 no-address {l} h = go (address-sound l)
   where
-    go : {o : Option (Read ℕ)} → Holds (Got Address l) o → o ≡ none
+    go : {o : Option (Read ℕ)} → AnswerHolds (Got Address l) o → o ≡ none
     go nothing = refl
     go (held {a} g) =
         let x = g .says in
@@ -59,7 +61,7 @@ no-address {l} h = go (address-sound l)
 -- no peer is missed
 pub peer-complete : {l : List ℕ} {p : Peer} → PeerOperand l p → peerOperand l ≡ some p
 unfolding peerOperand behindAddress
-peer-complete (by-as b) = rw (no-address (decimal-run (b .decimal)), numeral-complete b)
+peer-complete (by-as (plain b)) = rw (no-address (decimal-run (b .decimal)), as-numeral-complete (plain b))
 peer-complete (by-address {bs} {a} x) =
     let e : addressRead bs ≡ some (read a []) = rw (append-nil bs) at (address-complete x end) in
     rw e
@@ -68,5 +70,5 @@ peer-complete (by-both {bs} {gap} {cs} {l} {a} {n} x g h b e) = rw (e, address-c
     go : {blanks : List ℕ} → Every Blank blanks → 1 ≤ length blanks → behindAddress a (blanks ++ cs) ≡ some (byBoth a n)
     go every-none h = absurd (omega arith)
     go (every-more {a = y} {xs = ys} p ps) h =
-        let s = rw (append-nil cs) at (decimal-stops isBlank digit-no-blank (b .decimal) []) in
-        rw (blank-complete p, cut-exact isBlank (blanks-complete ps) s, numeral-complete b)
+        let s = rw (append-nil cs) at (as-stops isBlank digit-no-blank b []) in
+        rw (blank-complete p, cut-exact isBlank (blanks-complete ps) s, as-numeral-complete b)

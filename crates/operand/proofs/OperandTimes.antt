@@ -1,5 +1,5 @@
 -- Times: a comparison, seconds and a fraction; decided, and at most one. Assumes nothing.
-use Prim.Native.Nat.{ℕ, _+_, _-_, _*_, _^_}
+use Prim.Native.Nat.{ℕ, _+_, _-_, _*_}
 use native.Mathlib.Omega.{arith}
 use mathlib.Core.Path.{_≡_, refl, ap, _∙_}
 use mathlib.Core.Bool.{true, false}
@@ -10,11 +10,11 @@ use lib.ListN.{length, getD, drop}
 use borrow.Author.Tests.{eqb-true, leb-true, le-leb}
 use Rattle.program.specs.Readings.{Comparison, below, atMost, above, atLeast}
 use Rattle.operand.specs.Decimals.{Digits, end, more, isDigit}
-use Rattle.operand.proofs.Holding.{Holds, nothing, held, holds-onward, holds-pick}
+use Rattle.operand.proofs.Holding.{AnswerHolds, nothing, held, holds-onward, holds-pick}
 use Rattle.operand.proofs.FrontReads.{Got, got-pick, Stops, end, other, first-is}
 use Rattle.operand.proofs.Decimals.{digit-is, digit-of, number-sound, number-complete}
 use Rattle.operand.proofs.Blanks.{decimal-first}
-use Rattle.operand.specs.Times.{ComparisonText, unsigned, equals, less, at-most, greater, at-least, FractionText, whole, fraction, TimeOperand, orEqual, comparison, anyDigits, fractionOf, Moment, moment, timeOperand}
+use Rattle.operand.specs.Times.{secondsLimit, fractionDigits, ComparisonText, unsigned, equals, less, at-most, greater, at-least, FractionText, whole, fraction, TimeOperand, orEqual, comparison, anyDigits, fractionOf, Moment, moment, timeOperand}
 use Rattle.operand.specs.Fronts.{read}
 
 -- ---- the comparison
@@ -46,12 +46,12 @@ comparison-complete at-least f = refl
 -- ---- the fraction
 
 -- a number that was read is written so
-digits-sound : (n : ℕ) (l : List ℕ) → Holds (Digits n l) (anyDigits n l)
+digits-sound : (n : ℕ) (l : List ℕ) → AnswerHolds (Digits n l) (anyDigits n l)
 unfolding anyDigits
 digits-sound n [] = held end
 digits-sound n (b ∷ bs) = holds-pick (isDigit b) (λ e. go e (digits-sound (10 * n + (b - 48)) bs)) (λ e. nothing)
   where
-    go : isDigit b ≡ true → {o : Option ℕ} → Holds (Digits (10 * n + (b - 48)) bs) o → Holds (Digits n (b ∷ bs)) o
+    go : isDigit b ≡ true → {o : Option ℕ} → AnswerHolds (Digits (10 * n + (b - 48)) bs) o → AnswerHolds (Digits n (b ∷ bs)) o
     go e nothing = nothing
     go e (held {a} h) =
         let x : Digits n ((48 + (b - 48)) ∷ bs) a = more (b - 48) (digit-of b e .1) h in
@@ -64,27 +64,27 @@ digits-complete end = refl
 digits-complete (more {n} d h x) = let e : 48 + d - 48 ≡ d = omega arith in rw (digit-is d h, e) (digits-complete x)
 
 -- a fraction that was read is written so
-fraction-sound : (l : List ℕ) → Holds (FractionText l) (fractionOf l)
+fraction-sound : (l : List ℕ) → AnswerHolds (FractionText l) (fractionOf l)
 unfolding fractionOf
 fraction-sound [] = held whole
 fraction-sound (x ∷ bs) =
-    holds-pick (eqb x 46) (λ e. holds-pick (leb 1 (length bs)) (λ f. holds-pick (leb (length bs) 6) (λ g.
-    holds-onward (digits-sound 0 bs) (λ n h. held (rw (eqb-true x 46 e) (fraction h (leb-true 1 (length bs) f) (leb-true (length bs) 6 g))))) (λ g. nothing)) (λ f. nothing)) (λ e. nothing)
+    holds-pick (eqb x 46) (λ e. holds-pick (leb 1 (length bs)) (λ f. holds-pick (leb (length bs) fractionDigits) (λ g.
+    holds-onward (digits-sound 0 bs) (λ n h. held (rw (eqb-true x 46 e) (fraction h (leb-true 1 (length bs) f) (leb-true (length bs) fractionDigits g))))) (λ g. nothing)) (λ f. nothing)) (λ e. nothing)
 
 -- and every fraction is read
 fraction-complete : {l : List ℕ} {n : ℕ} → FractionText l n → fractionOf l ≡ some n
 unfolding fractionOf
 fraction-complete whole = refl
-fraction-complete (fraction {bs} h f g) = rw (le-leb 1 (length bs) f, le-leb (length bs) 6 g, digits-complete h)
+fraction-complete (fraction {bs} h f g) = rw (le-leb 1 (length bs) f, le-leb (length bs) fractionDigits g, digits-complete h)
 
 -- ---- the time
 
 -- a time that was read is meant
-pub time-sound : (l : List ℕ) → Holds (λ (x : Moment). TimeOperand l (x .comparison) (x .seconds) (x .micros)) (timeOperand l)
+pub time-sound : (l : List ℕ) → AnswerHolds (λ (x : Moment). TimeOperand l (x .comparison) (x .seconds) (x .micros)) (timeOperand l)
 unfolding timeOperand
 time-sound l =
     let g = comparison-sound l in
-    holds-onward (number-sound (2 ^ 32) (comparison l .rest)) (λ s h. holds-onward (fraction-sound (s .rest)) (λ m f.
+    holds-onward (number-sound secondsLimit (comparison l .rest)) (λ s h. holds-onward (fraction-sound (s .rest)) (λ m f.
     held (record { sign = g .text; whole = h .text; rest = s .rest; joined = rw (← (h .joined)) (g .joined); sign-is = g .says; whole-is = h .says; rest-is = f })))
 
 -- no fraction starts with a digit

@@ -3,23 +3,29 @@ use Prim.Native.Nat.{ℕ, _+_, _-_, _*_}
 use native.Mathlib.Omega.{arith}
 use mathlib.Core.Path.{_≡_, refl, sym, ap, _∙_}
 use mathlib.Core.Bool.{Bool, true, false}
-use mathlib.Core.Option.{none}
-use mathlib.Core.List.{List, [], _∷_}
-use lib.ListN.{length, drop, length-drop, drop-of-length-le}
-use Rattle.octets.specs.Choice.{pick}
+use mathlib.Core.Option.{Option, none, some}
+use mathlib.Core.List.{List, [], _∷_, map}
+use lib.ListN.{length, drop, length-drop, drop-of-length-le, length-map}
+use Rattle.octets.specs.Choice.{pick, onward}
 use Rattle.octets.proofs.Choices.{alike}
 use Rattle.aspath.specs.declared.Item.{Item}
 use Rattle.aspath.specs.Patterns.{Pattern}
-use Rattle.program.specs.Layout.{fields, endsCode, fieldsOf}
-use Rattle.program.specs.Compiling.{headOf}
+use Rattle.program.specs.Kinds.{pathKind}
+use Rattle.program.specs.Layout.{fields, endsCode, headFields}
+use Rattle.program.specs.declared.Fields.{Fields}
+use Rattle.program.specs.Readings.{Test, pathMatches}
+use Rattle.program.specs.Records.{item}
+use Rattle.program.specs.Compiling.{headOf, itemsOf}
 use Rattle.operand.specs.declared.Items.{Items}
 use Rattle.operand.specs.declared.Meant.the-variants.{Head, Broken}
 use Rattle.operand.specs.declared.Name.the-variants.{Path as pathName}
 use Rattle.operand.specs.Fronts.{Read, ended, optional}
-use Rattle.operand.specs.Patterns.{allItems, notEmpty, patternItems, patternOperand, itemsAtFront, OptionalEnd, ItemsAt}
-use Rattle.operand.specs.Tests.{meaning, meantOf}
+use Rattle.operand.specs.Parted.{allParted, PartedAt}
+use Rattle.operand.specs.Patterns.{itemRead, itemRecords, notEmpty, patternItems, patternOperand, OptionalEnd}
+use Rattle.operand.specs.Tests.{meaning, followingMeant, meantOf}
 use Rattle.token.specs.Next.{isBlank, runEnd}
 use Rattle.operand.proofs.Blanks.{blanks-left, blanks-within}
+use Rattle.operand.proofs.OperandPatterns.{items-in}
 
 -- a sign is counted as the variant of a record counts it
 signs : (x y : Bool) (start caret end dollar : ℕ) → caret ≡ start + pick x 1 0 → dollar ≡ end + pick y 1 0 → (caret - start) + 2 * (dollar - end) ≡ endsCode x y
@@ -48,17 +54,30 @@ left-over : (l : List ℕ) (p : Pattern) → (length l ≡ 0 → ⊥) → ended 
 left-over [] p n = absurd (n refl)
 left-over (b ∷ bs) p n = refl
 
+-- nothing follows where no pattern is meant
+pub none-follow : (s : List ℕ) → Broken ≡ meantOf (meaning pathName s) → followingMeant (meaning pathName s) ≡ []
+none-follow s e = go (meaning pathName s) e
+  where
+    go : (o : Option Test) → Broken ≡ meantOf o → followingMeant o ≡ []
+    go none e = refl
+    go (some t) e = let z : _≡_ {A = ℕ} 0 1 = cc in absurd (omega arith)
+
 module _ {s : List ℕ} {start caret first : ℕ} (a : start ≡ runEnd isBlank s 0) (b : OptionalEnd 94 s start caret) (c : first ≡ runEnd isBlank s caret) where
   -- the items stand behind blanks, maybe `^`, and blanks
-  listed-at : patternItems s ≡ allItems (drop first s)
+  listed-at : patternItems s ≡ allParted itemRead (drop first s)
   listed-at = rw (blanks-left s caret c, b .left, blanks-left s 0 a)
 
-  -- so do those of any bytes
-  pub items-at : itemsAtFront s ≡ allItems (drop first s) .value
-  unfolding itemsAtFront
-  items-at = ap (λ (r : Read (List Item)). r .value) listed-at
+  -- so do those of a pattern that is meant
+  pub items-follow : {f : Fields} {n : ℕ} → Head f n ≡ meantOf (meaning pathName s) → followingMeant (meaning pathName s) ≡ itemRecords (drop first s)
+  unfolding meaning itemsOf
+  items-follow {f} {n} e = go (patternOperand s) refl e
+    where
+      go : (o : Option Pattern) → patternOperand s ≡ o → Head f n ≡ meantOf (onward o (λ p. some (pathMatches p)))
+          → followingMeant (onward o (λ p. some (pathMatches p))) ≡ itemRecords (drop first s)
+      go none m e = let z : _≡_ {A = ℕ} 0 1 = cc in absurd (omega arith)
+      go (some p) m e = ap (map item) (sym (items-in s m) ∙ ap (λ (r : Read (List Item)). r .value) listed-at)
 
-  module _ {n : Items} (is : ItemsAt s first n) {dollar last : ℕ} (d : OptionalEnd 36 s (n .end) dollar) (e : last ≡ runEnd isBlank s dollar) where
+  module _ {n : Items} (is : PartedAt itemRead s first n) {dollar last : ℕ} (d : OptionalEnd 36 s (n .end) dollar) (e : last ≡ runEnd isBlank s dollar) where
     -- the parts at the places
     abbrev caret-stands : Bool
     caret-stands = optional 94 (drop start s) .value
@@ -67,7 +86,7 @@ module _ {s : List ℕ} {start caret first : ℕ} (a : start ≡ runEnd isBlank 
     dollar-stands = optional 36 (drop (n .end) s) .value
 
     abbrev found : List Item
-    found = allItems (drop first s) .value
+    found = allParted itemRead (drop first s) .value
 
     -- an operand by the places of its parts
     by-places : patternOperand s ≡ pick (notEmpty caret-stands found dollar-stands) (ended (drop last s) (record { start = caret-stands; items = found; end = dollar-stands })) none
@@ -76,7 +95,7 @@ module _ {s : List ℕ} {start caret first : ℕ} (a : start ≡ runEnd isBlank 
 
     -- the signs and items of a pattern by the places
     sized : endsCode caret-stands dollar-stands + length found ≡ (caret - start) + 2 * (dollar - n .end) + n .count
-    sized = omega (arith, signs caret-stands dollar-stands start caret (n .end) dollar (b .place) (d .place), is .count-is)
+    sized = omega (arith, signs caret-stands dollar-stands start caret (n .end) dollar (b .place) (d .place), length-map found item, is .count-is)
 
     -- an operand with bytes left behind its pattern
     pub broken-behind : (last ≡ length s → ⊥) → Broken ≡ meantOf (meaning pathName s)
@@ -90,8 +109,8 @@ module _ {s : List ℕ} {start caret first : ℕ} (a : start ≡ runEnd isBlank 
 
     -- a pattern
     pub pattern-here : last ≡ length s → ((caret - start) + 2 * (dollar - n .end) + n .count ≡ 0 → ⊥)
-        → Head (fields 3 ((caret - start) + 2 * (dollar - n .end)) (n .count) 0 0) ≡ meantOf (meaning pathName s)
-    unfolding meaning headOf fieldsOf
+        → Head (fields pathKind ((caret - start) + 2 * (dollar - n .end)) (n .count) 0 0) (n .count) ≡ meantOf (meaning pathName s)
+    unfolding meaning headOf itemsOf headFields
     pattern-here l h =
         let past : drop last s ≡ [] = drop-of-length-le s {i = last} (omega arith) in
-        rw (by-places, some-found caret-stands dollar-stands found (λ z. h (sym sized ∙ z)), past, signs caret-stands dollar-stands start caret (n .end) dollar (b .place) (d .place), is .count-is)
+        rw (by-places, some-found caret-stands dollar-stands found (λ z. h (sym sized ∙ z)), past, signs caret-stands dollar-stands start caret (n .end) dollar (b .place) (d .place), length-map found item, is .count-is)

@@ -8,18 +8,22 @@ use lib.Dec.{leb, ltb}
 use lib.ListN.{length, drop}
 use Rattle.octets.specs.Choice.{pick}
 use Rattle.octets.specs.Decimal.{Decimal}
-use Rattle.operand.specs.Fronts.{onward, Read, read, ended}
+use Rattle.operand.specs.Fronts.{Read, read, wholly}
 use Rattle.operand.specs.declared.Number.{Number}
 use Rattle.operand.specs.declared.Number.the-variants.{Read as readTo, Missing as missing}
+
+-- the value of a byte is below it
+abbrev pub byteLimit : ℕ
+byteLimit = 256
+
+-- a number that the code answers is below it
+abbrev pub wordLimit : ℕ
+wordLimit = 2 ^ 32
 
 -- a decimal below a limit
 pub record Below (limit : ℕ) (bs : List ℕ) (n : ℕ) : Type 0 where
   pub decimal : Decimal bs n
   pub below : n < limit
-
--- AS numbers are below 2^32
-abbrev pub AsNumber : List ℕ → ℕ → Type 0
-AsNumber bs n = Below (2 ^ 32) bs n
 
 -- digits with any zeros: the number that they say after a number
 pub data Digits : ℕ → List ℕ → ℕ → Type 0 where
@@ -46,7 +50,7 @@ number limit l = numberOn limit true 0 l
 
 -- the number that all of the bytes write
 unfoldable pub numeral : ℕ → List ℕ → Option ℕ
-numeral limit l = onward (number limit l) (λ r. ended (r .rest) (r .value))
+numeral limit l = wholly (number limit l)
 
 -- what an answer of the code says: the number, and what is left where it ends
 abbrev pub leftAt : List ℕ → Number → Option (Read ℕ)

@@ -5,13 +5,8 @@ use mathlib.Core.Option.{Option, none, some}
 use mathlib.Core.List.{List, [], _∷_}
 use lib.Dec.{eqb}
 use lib.ListN.{take, drop}
-use Rattle.octets.specs.Choice.{pick}
+use Rattle.octets.specs.Choice.{pick, onward}
 use Rattle.token.specs.Next.{run}
-
--- go on with an answer
-abbrev pub onward : {A B : Type 0} → Option A → (A → Option B) → Option B
-onward none f = none
-onward (some a) f = f a
 
 -- what was read at the front, and what is left behind it
 pub record Read (A : Type 0) : Type 0 where
@@ -26,6 +21,10 @@ read a r = record { value = a; rest = r }
 abbrev pub ended : {A : Type 0} → List ℕ → A → Option A
 ended [] a = some a
 ended (b ∷ bs) a = none
+
+-- the same of an answer
+abbrev pub wholly : {A : Type 0} → Option (Read A) → Option A
+wholly o = onward o (λ r. ended (r .rest) (r .value))
 
 -- what is left behind the byte b
 unfoldable pub after : ℕ → List ℕ → Option (List ℕ)

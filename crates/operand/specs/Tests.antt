@@ -1,18 +1,18 @@
 -- The tests that have an operand, and what an operand of each stands for.
 use Prim.Native.Nat.{ℕ}
 use mathlib.Core.Option.{Option, none, some}
-use mathlib.Core.List.{List}
+use mathlib.Core.List.{List, []}
 use lib.Dec.{ltb}
 use lib.ListN.{length}
-use Rattle.octets.specs.Choice.{pick}
-use Rattle.network.specs.declared.Network.{Network}
+use Rattle.octets.specs.Choice.{pick, onward}
+use Rattle.network.specs.Networks.{Network}
 use Rattle.network.specs.declared.Relation.{Relation}
 use Rattle.aspath.specs.Patterns.{Pattern}
 use Rattle.program.specs.Readings.{Peer, Side, Comparison, Test, typeIs, hasAttribute, pathMatches, peerIs, networkIs, timeIs}
-use Rattle.program.specs.Layout.{fields, fieldsOf}
-use Rattle.program.specs.Compiling.{headOf}
+use Rattle.program.specs.Layout.{fields, headFields}
+use Rattle.program.specs.Records.{Record}
+use Rattle.program.specs.Compiling.{headOf, followingOf}
 use Rattle.token.specs.Texts.{textLimit}
-use Rattle.operand.specs.Fronts.{onward}
 use Rattle.names.specs.Names.{typeNames, attributeNames}
 use Rattle.operand.specs.Codes.{CodeOperand, coded}
 use Rattle.operand.specs.Addresses.{NetworkOperand, networkOperand}
@@ -22,7 +22,8 @@ use Rattle.operand.specs.Times.{TimeOperand, comparison, timeOperand}
 use Rattle.operand.specs.declared.Meant.{Meant}
 use Rattle.operand.specs.declared.Meant.the-variants.{Head, Broken}
 use Rattle.operand.specs.declared.Name.{Name}
-use Rattle.operand.specs.declared.Name.the-variants.{MessageType as typeName, Attribute as attributeName, Path as pathName, Peer as peerName, Time as timeName, Network as networkName}
+use Rattle.operand.specs.declared.Name.the-variants.{MessageType as typeName, Attribute as attributeName, Path as pathName}
+use Rattle.operand.specs.declared.Name.the-variants.{Peer as peerName, Time as timeName, Network as networkName}
 
 -- what a test with an operand of these bytes is, if the operand keeps the test's rule
 pub data StandsFor : Name → List ℕ → Test → Type 0 where
@@ -44,19 +45,24 @@ meaning peerName v = onward (peerOperand v) (λ p. some (peerIs p))
 meaning timeName v = onward (timeOperand v) (λ t. some (timeIs (t .comparison) (t .seconds) (t .micros)))
 meaning (networkName r) v = onward (networkOperand v) (λ n. some (networkIs r (n .network) (n .side)))
 
--- the record of a test, or that the operand breaks its test's rule
+-- the same, and none where the operand is longer than a text
+unfoldable pub operandMeaning : Name → List ℕ → Option Test
+operandMeaning k v = pick (ltb textLimit (length v)) none (meaning k v)
+
+-- the records that follow the head of the test that an operand makes; none where it breaks its test's rule
+abbrev pub followingMeant : Option Test → List Record
+followingMeant none = []
+followingMeant (some t) = followingOf t
+
+-- the head of a test and how many records follow it, or that the operand breaks its test's rule
 abbrev pub meantOf : Option Test → Meant
 meantOf none = Broken
-meantOf (some t) = Head (fieldsOf (headOf t))
+meantOf (some t) = Head (headFields (headOf t)) (length (followingOf t))
 
--- an operand is no longer than a text
-unfoldable pub meantBy : Name → List ℕ → Meant
-meantBy k v = pick (ltb textLimit (length v)) Broken (meantOf (meaning k v))
-
--- the record of a code, of kind 1 or 2
+-- the record of a code, of a kind
 abbrev pub codeMeant : ℕ → Option ℕ → Meant
 codeMeant k none = Broken
-codeMeant k (some c) = Head (fields k 0 0 c 0)
+codeMeant k (some c) = Head (fields k 0 0 c 0) 0
 
 -- the record of a peer
 abbrev pub peerMeant : Option Peer → Meant

@@ -5,14 +5,22 @@ use mathlib.Core.Option.{Option, none, some}
 use mathlib.Core.List.{List, [], _∷_, _++_}
 use lib.ListN.{length, getD, drop}
 use lib.Dec.{eqb, leb}
-use Rattle.octets.specs.Choice.{pick}
+use Rattle.octets.specs.Choice.{pick, onward}
 use Rattle.program.specs.Readings.{Comparison, equal, below, atMost, above, atLeast}
 use Rattle.program.specs.Layout.{comparisonCode}
-use Rattle.operand.specs.Fronts.{onward, Read, read}
+use Rattle.operand.specs.Fronts.{Read, read}
 use Rattle.operand.specs.Decimals.{Below, Digits, isDigit, number, valueOf}
 use Rattle.operand.specs.declared.Number.{Number}
 use Rattle.operand.specs.declared.Number.the-variants.{Read as readTo}
 use Rattle.operand.specs.declared.Sign.{Sign}
+
+-- the seconds of a time are below it
+abbrev pub secondsLimit : ℕ
+secondsLimit = 2 ^ 32
+
+-- the most digits of a fraction
+abbrev pub fractionDigits : ℕ
+fractionDigits = 6
 
 -- `=`, `<`, `<=`, `>`, `>=`, or none for `=`
 pub data ComparisonText : List ℕ → Comparison → Type 0 where
@@ -26,7 +34,8 @@ pub data ComparisonText : List ℕ → Comparison → Type 0 where
 -- nothing, or a dot and 1 to 6 digits; in microseconds: `.5` is 500,000
 pub data FractionText : List ℕ → ℕ → Type 0 where
   whole : FractionText [] 0
-  fraction : {bs : List ℕ} {n : ℕ} → Digits 0 bs n → 1 ≤ length bs → length bs ≤ 6 → FractionText (46 ∷ bs) (n * 10 ^ (6 - length bs))
+  fraction : {bs : List ℕ} {n : ℕ} → Digits 0 bs n → 1 ≤ length bs → length bs ≤ fractionDigits
+      → FractionText (46 ∷ bs) (n * 10 ^ (fractionDigits - length bs))
 
 -- a comparison, seconds below 2^32, and maybe a fraction
 pub record TimeOperand (bs : List ℕ) (c : Comparison) (seconds micros : ℕ) : Type 0 where
@@ -35,7 +44,7 @@ pub record TimeOperand (bs : List ℕ) (c : Comparison) (seconds micros : ℕ) :
   pub rest : List ℕ
   pub joined : bs ≡ sign ++ (whole ++ rest)
   pub sign-is : ComparisonText sign c
-  pub whole-is : Below (2 ^ 32) whole seconds
+  pub whole-is : Below secondsLimit whole seconds
   pub rest-is : FractionText rest micros
 
 -- ---- what the code computes
@@ -58,7 +67,10 @@ anyDigits n (b ∷ bs) = pick (isDigit b) (anyDigits (10 * n + (b - 48)) bs) non
 -- the microseconds of what stands behind the seconds
 unfoldable pub fractionOf : List ℕ → Option ℕ
 fractionOf [] = some 0
-fractionOf (x ∷ bs) = pick (eqb x 46) (pick (leb 1 (length bs)) (pick (leb (length bs) 6) (onward (anyDigits 0 bs) (λ n. some (n * 10 ^ (6 - length bs)))) none) none) none
+fractionOf (x ∷ bs) =
+    pick (eqb x 46)
+    (pick (leb 1 (length bs))
+    (pick (leb (length bs) fractionDigits) (onward (anyDigits 0 bs) (λ n. some (n * 10 ^ (fractionDigits - length bs)))) none) none) none
 
 -- what an operand of `-timestamp` says
 pub record Moment : Type 0 where
@@ -72,7 +84,9 @@ moment c s m = record { comparison = c; seconds = s; micros = m }
 
 -- the time that these bytes write
 unfoldable pub timeOperand : List ℕ → Option Moment
-timeOperand l = onward (number (2 ^ 32) (comparison l .rest)) (λ s. onward (fractionOf (s .rest)) (λ m. some (moment (comparison l .value) (s .value) m)))
+timeOperand l =
+    onward (number secondsLimit (comparison l .rest)) (λ s. onward (fractionOf (s .rest)) (λ m.
+    some (moment (comparison l .value) (s .value) m)))
 
 -- a comparison by its code, and where it ends
 pub record Signed (s : List ℕ) (r : Sign) : Type 0 where

@@ -1,27 +1,51 @@
 // Operands: what the bytes of a test's operand stand for.
 ghost use mathlib.Core.Path.{_≡_};
 ghost use Prim.Native.Nat.{_+_, _-_, _*_, _^_, _≤_, _<_};
-ghost use mathlib.Core.List.{map};
 ghost use mathlib.Core.Option.{some};
 ghost use lib.ListN.{length, drop};
 ghost use lib.Dec.{leb};
-ghost use Rattle.octets.specs.Choice.{pick, orElse};
+ghost use Rattle.octets.specs.Choice.{pick, orElse, onward};
 ghost use Rattle.octets.specs.Writes.{Written};
-ghost use Rattle.program.specs.Readings.{byAs};
+ghost use Rattle.program.specs.Readings.{byAs, Side};
 ghost use Rattle.program.specs.Records.{item};
-ghost use Rattle.program.specs.Layout.{fields, fieldsOf, encodeAll, relationCode, sideIs};
+ghost use Rattle.program.specs.Layout.{fields, fieldsOf, encodeAll, relationCode, sideCode};
 ghost use Rattle.token.specs.Texts.{textLimit};
-ghost use Rattle.operand.specs.Fronts.{onward};
-ghost use Rattle.operand.specs.Decimals.{isDigit, number, numeral, valueOf, ReadAt};
+ghost use Rattle.operand.specs.Fronts.{wholly};
+ghost use Rattle.operand.specs.Decimals.{byteLimit, wordLimit, isDigit, number, numeral, leftAt, valueOf, ReadAt};
+ghost use Rattle.operand.specs.AsNumbers.{asLimit, asNumber, asNumeral};
 ghost use Rattle.names.specs.Names.{namedCode};
-ghost use Rattle.operand.specs.Addresses.{partRead, addressRead, networkRead};
+ghost use Rattle.operand.specs.Addresses.{partRead, networkRead, AddressAt};
 ghost use Rattle.operand.specs.Peers.{behindAddress};
-ghost use Rattle.operand.specs.Patterns.{OptionalEnd, ItemAt, ItemsAt, itemsAtFront};
-ghost use Rattle.operand.specs.Times.{fractionOf, Signed, Digited};
-ghost use Rattle.operand.specs.Tests.{meaning, meantOf, meantBy, codeMeant, peerMeant, networkMeant};
+ghost use Rattle.operand.specs.Parted.{PartedAt};
+ghost use Rattle.operand.specs.Patterns.{OptionalEnd, itemRead, itemRecords, ItemAt};
+ghost use Rattle.operand.specs.Times.{fractionDigits, fractionOf, Signed, Digited};
+ghost use Rattle.operand.specs.Tests.{meaning, operandMeaning, followingMeant, meantOf, codeMeant, peerMeant, networkMeant};
 use aspath::Item;
 use network::Relation;
 use program::Fields;
+
+// The value of a byte is below it: a code, or a part of an address.
+const BYTE_LIMIT: u64 = 256;
+// Every AS number is below it.
+const AS_LIMIT: u64 = 4294967296;
+// The seconds of a time are below it.
+const SECONDS_LIMIT: u64 = 4294967296;
+// The most digits of a fraction.
+const FRACTION_DIGITS: usize = 6;
+// The bits of an address, and the first length that no network has.
+const ADDRESS_BITS: u64 = network::ADDRESS_BITS as u64;
+
+const LENGTH_LIMIT: u64 = ADDRESS_BITS + 1;
+// The signs before a network and a time.
+const PLUS: u32 = b'+' as u32;
+
+const MINUS: u32 = b'-' as u32;
+
+const EQUALS: u32 = b'=' as u32;
+
+const LESS: u32 = b'<' as u32;
+
+const GREATER: u32 = b'>' as u32;
 
 // The tests that have an operand.
 pub enum Name {
@@ -33,15 +57,21 @@ pub enum Name {
     Network(Relation),
 }
 
-// The record of a test, or that its operand breaks the test's rule.
+// The head of a test and how many records follow it, or that its operand breaks the test's rule.
 pub enum Meant {
-    Head(Fields),
+    Head { fields: Fields, following: u32 },
     Broken,
 }
 
 // A number and the place behind it.
 enum Number {
     Read { value: u32, end: usize },
+    Missing,
+}
+
+// An address and the place behind it.
+enum AddressRead {
+    Read { address: u32, end: usize },
     Missing,
 }
 
@@ -63,25 +93,29 @@ struct Sign {
     end: usize,
 }
 
+// A head that nothing follows.
 fn head(kind: u32, variant: u32, count: u32, a: u32, b: u32) -> Meant
-    ensures { λ r. ⌜ r ≡ Meant.Head (fields kind variant count a b) ⌝ }
+    ensures { λ r. ⌜ r ≡ Meant.Head (fields kind variant count a b) 0 ⌝ }
 {
-    Meant::Head(Fields {
-        kind,
-        variant,
-        count,
-        a,
-        b,
-    })
+    Meant::Head {
+        fields: Fields {
+            kind,
+            variant,
+            count,
+            a,
+            b,
+        },
+        following: 0,
+    }
 }
 
 fn is_digit(b: u8) -> bool
     ensures { λ r. ⌜ r ≡ isDigit b ⌝ }
 {
-    if b < 48 {
+    if b < b'0' {
         return false;
     }
-    b <= 57
+    b <= b'9'
 }
 
 // The number between two places, if there is any byte between.
@@ -96,7 +130,7 @@ fn number_between(at: usize, end: usize, value: u32) -> Number
 
 // The number at a place: no leading zeros, below the limit.
 fn number_at(s: &[u8], at: usize, limit: u64) -> Number
-    requires { ⌜ (at ≤ length (now s)) × (limit ≤ 4294967296) ⌝ }
+    requires { ⌜ (at ≤ length (now s)) × (limit ≤ wordLimit) ⌝ }
     ensures { λ r. ⌜ ReadAt (number limit) (now (s .entry)) at limit r ⌝ }
 {
     let mut n: u64 = 0;
@@ -111,7 +145,7 @@ fn number_at(s: &[u8], at: usize, limit: u64) -> Number
                 return Number::Missing;
             }
         }
-        n = 10 * n + (b - 48) as u64;
+        n = 10 * n + (b - b'0') as u64;
         if limit <= n {
             return Number::Missing;
         }
@@ -120,12 +154,11 @@ fn number_at(s: &[u8], at: usize, limit: u64) -> Number
     number_between(at, end, n as u32)
 }
 
-// The number that all bytes from a place on write.
-fn numeral(s: &[u8], at: usize, limit: u64) -> Number
-    requires { ⌜ (at ≤ length (now s)) × (limit ≤ 4294967296) ⌝ }
-    ensures { λ r. ⌜ valueOf r ≡ numeral limit (drop at (now (s .entry))) ⌝ }
+// A number that was read, if nothing is left behind it.
+fn wholly(s: &[u8], read: Number) -> Number
+    ensures { λ r. ⌜ valueOf r ≡ wholly (leftAt (now (s .entry)) read) ⌝ }
 {
-    let Number::Read { value, end } = number_at(s, at, limit) else {
+    let Number::Read { value, end } = read else {
         return Number::Missing;
     };
     if end < s.len() {
@@ -134,14 +167,38 @@ fn numeral(s: &[u8], at: usize, limit: u64) -> Number
     Number::Read { value, end }
 }
 
+// The number that all bytes from a place on write.
+fn numeral(s: &[u8], at: usize, limit: u64) -> Number
+    requires { ⌜ (at ≤ length (now s)) × (limit ≤ wordLimit) ⌝ }
+    ensures { λ r. ⌜ valueOf r ≡ numeral limit (drop at (now (s .entry))) ⌝ }
+{
+    wholly(s, number_at(s, at, limit))
+}
+
+// The AS number at a place.
+fn as_number(s: &[u8], at: usize) -> Number
+    requires { ⌜ at ≤ length (now s) ⌝ }
+    ensures { λ r. ⌜ ReadAt asNumber (now (s .entry)) at asLimit r ⌝ }
+{
+    number_at(s, at, AS_LIMIT)
+}
+
+// The AS number that all bytes from a place on write.
+fn as_numeral(s: &[u8], at: usize) -> Number
+    requires { ⌜ at ≤ length (now s) ⌝ }
+    ensures { λ r. ⌜ valueOf r ≡ asNumeral (drop at (now (s .entry))) ⌝ }
+{
+    wholly(s, as_number(s, at))
+}
+
 // The record of a code: that of a name, or where there is none the number.
 fn code_record(kind: u32, named: u32, bytes: &[u8]) -> Meant
-    ensures { λ r. ⌜ r ≡ codeMeant kind (orElse (namedCode named) (numeral 256 (now (bytes .entry)))) ⌝ }
+    ensures { λ r. ⌜ r ≡ codeMeant kind (orElse (namedCode named) (numeral byteLimit (now (bytes .entry)))) ⌝ }
 {
-    if named != 0 {
+    if named != names::UNNAMED {
         return head(kind, 0, 0, named, 0);
     }
-    let Number::Read { value, end: _ } = numeral(bytes, 0, 256) else {
+    let Number::Read { value, end: _ } = numeral(bytes, 0, BYTE_LIMIT) else {
         return Meant::Broken;
     };
     head(kind, 0, 0, value, 0)
@@ -150,9 +207,9 @@ fn code_record(kind: u32, named: u32, bytes: &[u8]) -> Meant
 // A part of an address and its dot.
 fn part(s: &[u8], at: usize) -> Number
     requires { ⌜ at ≤ length (now s) ⌝ }
-    ensures { λ r. ⌜ ReadAt partRead (now (s .entry)) at 256 r ⌝ }
+    ensures { λ r. ⌜ ReadAt partRead (now (s .entry)) at byteLimit r ⌝ }
 {
-    let Number::Read { value, end } = number_at(s, at, 256) else {
+    let Number::Read { value, end } = number_at(s, at, BYTE_LIMIT) else {
         return Number::Missing;
     };
     if s.len() <= end {
@@ -167,24 +224,24 @@ fn part(s: &[u8], at: usize) -> Number
     }
 }
 
-fn address(s: &[u8], at: usize) -> Number
+fn address_at(s: &[u8], at: usize) -> AddressRead
     requires { ⌜ at ≤ length (now s) ⌝ }
-    ensures { λ r. ⌜ ReadAt addressRead (now (s .entry)) at 4294967296 r ⌝ }
+    ensures { λ r. ⌜ AddressAt (now (s .entry)) at r ⌝ }
 {
     let Number::Read { value: a, end } = part(s, at) else {
-        return Number::Missing;
+        return AddressRead::Missing;
     };
     let Number::Read { value: b, end } = part(s, end) else {
-        return Number::Missing;
+        return AddressRead::Missing;
     };
     let Number::Read { value: c, end } = part(s, end) else {
-        return Number::Missing;
+        return AddressRead::Missing;
     };
-    let Number::Read { value: d, end } = number_at(s, end, 256) else {
-        return Number::Missing;
+    let Number::Read { value: d, end } = number_at(s, end, BYTE_LIMIT) else {
+        return AddressRead::Missing;
     };
-    Number::Read {
-        value: ((a * 256 + b) * 256 + c) * 256 + d,
+    AddressRead::Read {
+        address: ((a * 256 + b) * 256 + c) * 256 + d,
         end,
     }
 }
@@ -200,16 +257,12 @@ fn relation_code(relation: Relation) -> u32
     }
 }
 
-// The record of the network at a place, on a side.
+// The record of the network at a place, on the side of a code.
 fn network_record(bytes: &[u8], at: usize, relation: Relation, side: u32) -> Meant
-    requires { ⌜ (at ≤ length (now bytes)) × (side ≤ 2) ⌝ }
-    ensures { λ r. ⌜ r ≡ networkMeant relation (sideIs side) (networkRead (drop at (now (bytes .entry)))) ⌝ }
+    requires { ⌜ at ≤ length (now bytes) ⌝ }
+    ensures { λ r. ⌜ ((s : Side) → sideCode s ≡ side → r ≡ networkMeant relation s (networkRead (drop at (now (bytes .entry))))) ⌝ }
 {
-    let Number::Read {
-        value: address,
-        end,
-    } = address(bytes, at)
-    else {
+    let AddressRead::Read { address, end } = address_at(bytes, at) else {
         return Meant::Broken;
     };
     if bytes.len() <= end {
@@ -218,11 +271,17 @@ fn network_record(bytes: &[u8], at: usize, relation: Relation, side: u32) -> Mea
     if bytes[end] != b'/' {
         return Meant::Broken;
     }
-    let Number::Read { value: len, end: _ } = numeral(bytes, end + 1, 33) else {
+    let Number::Read { value: len, end: _ } = numeral(bytes, end + 1, LENGTH_LIMIT) else {
         return Meant::Broken;
     };
     let n = network::network_of(address, len);
-    head(8, relation_code(relation), n.len, n.address, side)
+    head(
+        program::NETWORK,
+        relation_code(relation),
+        n.len,
+        n.address,
+        side,
+    )
 }
 
 // A leading `+` means announcements, `-` withdrawals.
@@ -230,10 +289,10 @@ fn network_operand(relation: Relation, bytes: &[u8]) -> Meant
     ensures { λ r. ⌜ r ≡ meantOf (meaning (Name.Network relation) (now (bytes .entry))) ⌝ }
 {
     let first = octets::number(bytes, 0, 1);
-    if first == 43 {
+    if first == PLUS {
         return network_record(bytes, 1, relation, 1);
     }
-    if first == 45 {
+    if first == MINUS {
         return network_record(bytes, 1, relation, 2);
     }
     network_record(bytes, 0, relation, 0)
@@ -245,35 +304,35 @@ fn peer_behind(bytes: &[u8], at: usize, address: u32) -> Meant
     ensures { λ r. ⌜ r ≡ peerMeant (behindAddress address (drop at (now (bytes .entry)))) ⌝ }
 {
     if bytes.len() <= at {
-        return head(5, 2, 0, address, 0);
+        return head(program::PEER, 2, 0, address, 0);
     }
     if !token::is_blank(bytes[at]) {
         return Meant::Broken;
     }
     let next = token::blanks_end(bytes, at + 1);
-    let Number::Read { value, end: _ } = numeral(bytes, next, 4294967296) else {
+    let Number::Read { value, end: _ } = as_numeral(bytes, next) else {
         return Meant::Broken;
     };
-    head(5, 3, 0, address, value)
+    head(program::PEER, 3, 0, address, value)
 }
 
 // The record of a peer by its AS number alone.
 fn peer_by_as(bytes: &[u8]) -> Meant
-    ensures { λ r. ⌜ r ≡ peerMeant (onward (numeral (2 ^ 32) (now (bytes .entry))) (λ n. some (byAs n))) ⌝ }
+    ensures { λ r. ⌜ r ≡ peerMeant (onward (asNumeral (now (bytes .entry))) (λ n. some (byAs n))) ⌝ }
 {
-    let Number::Read { value, end: _ } = numeral(bytes, 0, 4294967296) else {
+    let Number::Read { value, end: _ } = as_numeral(bytes, 0) else {
         return Meant::Broken;
     };
-    head(5, 1, 0, 0, value)
+    head(program::PEER, 1, 0, 0, value)
 }
 
 fn peer(bytes: &[u8]) -> Meant
     ensures { λ r. ⌜ r ≡ meantOf (meaning Name.Peer (now (bytes .entry))) ⌝ }
 {
-    let Number::Read { value, end } = address(bytes, 0) else {
+    let AddressRead::Read { address, end } = address_at(bytes, 0) else {
         return peer_by_as(bytes);
     };
-    peer_behind(bytes, end, value)
+    peer_behind(bytes, end, address)
 }
 
 fn comparison(s: &[u8]) -> Sign
@@ -281,17 +340,17 @@ fn comparison(s: &[u8]) -> Sign
 {
     let first = octets::number(s, 0, 1);
     let second = octets::number(s, 1, 1);
-    if first == 61 {
+    if first == EQUALS {
         return Sign { code: 0, end: 1 };
     }
-    if first == 60 {
-        if second == 61 {
+    if first == LESS {
+        if second == EQUALS {
             return Sign { code: 2, end: 2 };
         }
         return Sign { code: 1, end: 1 };
     }
-    if first == 62 {
-        if second == 61 {
+    if first == GREATER {
+        if second == EQUALS {
             return Sign { code: 4, end: 2 };
         }
         return Sign { code: 3, end: 1 };
@@ -299,9 +358,9 @@ fn comparison(s: &[u8]) -> Sign
     Sign { code: 0, end: 0 }
 }
 
-// The number that the digits from a place on say, at most six and with any zeros.
+// The number that the digits from a place on say, with any zeros.
 fn digits(s: &[u8], at: usize) -> Number
-    requires { ⌜ (at ≤ length (now s)) × (length (now s) ≤ at + 6) ⌝ }
+    requires { ⌜ (at ≤ length (now s)) × (length (now s) ≤ at + fractionDigits) ⌝ }
     ensures { λ r. ⌜ Digited (now (s .entry)) at r ⌝ }
 {
     let mut n: u32 = 0;
@@ -311,7 +370,7 @@ fn digits(s: &[u8], at: usize) -> Number
         if !is_digit(b) {
             return Number::Missing;
         }
-        n = 10 * n + (b - 48) as u32;
+        n = 10 * n + (b - b'0') as u32;
         i += 1;
     }
     Number::Read { value: n, end: i }
@@ -319,12 +378,12 @@ fn digits(s: &[u8], at: usize) -> Number
 
 // A fraction of so many digits in microseconds.
 fn scaled(n: u32, digits: usize) -> u32
-    requires { ⌜ (digits ≤ 6) × (n < 10 ^ digits) ⌝ }
-    ensures { λ r. ⌜ r ≡ n * 10 ^ (6 - digits) ⌝ }
+    requires { ⌜ (digits ≤ fractionDigits) × (n < 10 ^ digits) ⌝ }
+    ensures { λ r. ⌜ r ≡ n * 10 ^ (fractionDigits - digits) ⌝ }
 {
     let mut micros = n;
     let mut k = digits;
-    while k < 6 {
+    while k < FRACTION_DIGITS {
         micros = 10 * micros;
         k += 1;
     }
@@ -347,7 +406,7 @@ fn fraction(s: &[u8], at: usize) -> Number
     if count < 1 {
         return Number::Missing;
     }
-    if 6 < count {
+    if FRACTION_DIGITS < count {
         return Number::Missing;
     }
     let Number::Read { value, end } = digits(s, start) else {
@@ -366,7 +425,7 @@ fn time(bytes: &[u8]) -> Meant
     let Number::Read {
         value: seconds,
         end,
-    } = number_at(bytes, sign.end, 4294967296)
+    } = number_at(bytes, sign.end, SECONDS_LIMIT)
     else {
         return Meant::Broken;
     };
@@ -377,7 +436,7 @@ fn time(bytes: &[u8]) -> Meant
     else {
         return Meant::Broken;
     };
-    head(9, sign.code, 0, seconds, micros)
+    head(program::TIME, sign.code, 0, seconds, micros)
 }
 
 // The place after a byte that may stand at a place.
@@ -399,7 +458,7 @@ fn item_at(s: &[u8], at: usize) -> ItemRead
     requires { ⌜ at ≤ length (now s) ⌝ }
     ensures { λ r. ⌜ ItemAt (now (s .entry)) at r ⌝ }
 {
-    let plain = number_at(s, at, 4294967296);
+    let plain = as_number(s, at);
     if let Number::Read { value, end } = plain {
         return ItemRead::Read {
             item: Item::Number(value),
@@ -418,7 +477,7 @@ fn item_at(s: &[u8], at: usize) -> ItemRead
     if s[at] != b'!' {
         return ItemRead::Missing;
     }
-    let other = number_at(s, at + 1, 4294967296);
+    let other = as_number(s, at + 1);
     let Number::Read { value, end } = other else {
         return ItemRead::Missing;
     };
@@ -431,7 +490,7 @@ fn item_at(s: &[u8], at: usize) -> ItemRead
 // Counts the items from a place on, as far as they are parted by blanks.
 fn items_at(s: &[u8], at: usize) -> Items
     requires { ⌜ (at ≤ length (now s)) × (length (now s) ≤ textLimit) ⌝ }
-    ensures { λ r. ⌜ ItemsAt (now (s .entry)) at r ⌝ }
+    ensures { λ r. ⌜ PartedAt itemRead (now (s .entry)) at r ⌝ }
 {
     let mut count: u32 = 0;
     let mut next = at;
@@ -465,13 +524,16 @@ fn pattern(bytes: &[u8]) -> Meant
     if variant + items.count == 0 {
         return Meant::Broken;
     }
-    Meant::Head(Fields {
-        kind: 3,
-        variant,
-        count: items.count,
-        a: 0,
-        b: 0,
-    })
+    Meant::Head {
+        fields: Fields {
+            kind: program::PATH,
+            variant,
+            count: items.count,
+            a: 0,
+            b: 0,
+        },
+        following: items.count,
+    }
 }
 
 // The fields of an item's record.
@@ -480,21 +542,21 @@ fn item_fields(i: Item) -> Fields
 {
     match i {
         Item::Number(n) => Fields {
-            kind: 4,
+            kind: program::ITEM,
             variant: 0,
             count: 0,
             a: n,
             b: 0,
         },
         Item::Other(n) => Fields {
-            kind: 4,
+            kind: program::ITEM,
             variant: 1,
             count: 0,
             a: n,
             b: 0,
         },
         Item::Any => Fields {
-            kind: 4,
+            kind: program::ITEM,
             variant: 2,
             count: 0,
             a: 0,
@@ -503,30 +565,13 @@ fn item_fields(i: Item) -> Fields
     }
 }
 
-// What an operand of a test stands for.
-pub fn meaning(name: Name, bytes: &[u8]) -> Meant
-    ensures { λ r. ⌜ r ≡ meantBy name (now (bytes .entry)) ⌝ }
-{
-    if 4096 < bytes.len() {
-        return Meant::Broken;
-    }
-    match name {
-        Name::MessageType => code_record(1, names::type_named(bytes), bytes),
-        Name::Attribute => code_record(2, names::attribute_named(bytes), bytes),
-        Name::Path => pattern(bytes),
-        Name::Peer => peer(bytes),
-        Name::Time => time(bytes),
-        Name::Network(relation) => network_operand(relation, bytes),
-    }
-}
-
-// Writes the records of the items of a pattern, one after another, and answers the place after them.
-pub fn put_items(bytes: &[u8], out: &mut [u8], at: usize) -> usize
-    ensures { λ r. ⌜ Written (now (out .entry)) at (encodeAll (map item (itemsAtFront (now (bytes .entry))))) (now (out .exit)) r ⌝ }
+// Writes the records of the items from a place on, one after another, and answers the place after them.
+fn put_items_from(bytes: &[u8], start: usize, out: &mut [u8], at: usize) -> usize
+    requires { ⌜ start ≤ length (now bytes) ⌝ }
+    ensures { λ r. ⌜ Written (now (out .entry)) at (encodeAll (itemRecords (drop start (now (bytes .entry))))) (now (out .exit)) r ⌝ }
 {
     let mut place = at;
-    let start = token::blanks_end(bytes, 0);
-    let mut p = token::blanks_end(bytes, optional_end(bytes, start, b'^'));
+    let mut p = start;
     loop {
         let read = item_at(bytes, p);
         let ItemRead::Read { item, end } = read else {
@@ -537,5 +582,53 @@ pub fn put_items(bytes: &[u8], out: &mut [u8], at: usize) -> usize
         if p == end {
             return place;
         }
+    }
+}
+
+// Writes the records of the items of a pattern; of none where the operand is no pattern.
+fn put_pattern_items(bytes: &[u8], out: &mut [u8], at: usize) -> usize
+    requires { ⌜ length (now bytes) ≤ textLimit ⌝ }
+    ensures { λ r. ⌜ Written (now (out .entry)) at (encodeAll (followingMeant (meaning Name.Path (now (bytes .entry))))) (now (out .exit)) r ⌝ }
+{
+    let meant = pattern(bytes);
+    let Meant::Head {
+        fields: _,
+        following: _,
+    } = meant
+    else {
+        return at;
+    };
+    let start = token::blanks_end(bytes, 0);
+    let caret = optional_end(bytes, start, b'^');
+    put_items_from(bytes, token::blanks_end(bytes, caret), out, at)
+}
+
+// What an operand of a test stands for.
+pub fn meaning(name: Name, bytes: &[u8]) -> Meant
+    ensures { λ r. ⌜ r ≡ meantOf (operandMeaning name (now (bytes .entry))) ⌝ }
+{
+    if token::TEXT_LIMIT < bytes.len() {
+        return Meant::Broken;
+    }
+    match name {
+        Name::MessageType => code_record(program::TYPE, names::type_named(bytes), bytes),
+        Name::Attribute => code_record(program::ATTRIBUTE, names::attribute_named(bytes), bytes),
+        Name::Path => pattern(bytes),
+        Name::Peer => peer(bytes),
+        Name::Time => time(bytes),
+        Name::Network(relation) => network_operand(relation, bytes),
+    }
+}
+
+// Writes the records that follow the head of the test that an operand stands for, and answers the place after them.
+pub fn put_items(name: Name, bytes: &[u8], out: &mut [u8], at: usize) -> usize
+    ensures { λ r. ⌜ Written (now (out .entry)) at (encodeAll (followingMeant (operandMeaning name (now (bytes .entry))))) (now (out .exit)) r ⌝ }
+{
+    if token::TEXT_LIMIT < bytes.len() {
+        return at;
+    }
+    match name {
+        Name::Path => put_pattern_items(bytes, out, at),
+        _ => at,
     }
 }

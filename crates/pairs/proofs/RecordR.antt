@@ -20,7 +20,7 @@ use Rattle.attributes.specs.Codes.{elem, distinct}
 use Rattle.attributes.specs.Bodies.{bodyRight, allRight, said}
 use Rattle.message.specs.declared.Decoded.the-variants.{Read}
 use Rattle.message.specs.Represents.{Represents}
-use Rattle.message.specs.Decode.{wrongSize, wrongKind, wrongPeer, ones, wrongFrame, wrongSections, wrongAttributes, wrongBody, wrongPrefix, updateParts, updateOf, messageOf, decodeOf, messageAt}
+use Rattle.message.specs.Decode.{wrongSize, wrongMrtType, wrongPeer, ones, wrongFrame, wrongSections, wrongAttributes, wrongBody, wrongPrefix, updateParts, updateOf, messageOf, decodeOf, messageAt}
 use Rattle.message.proofs.RecordReads.{read-represents}
 use Rattle.pairs.specs.RecordR.{recordR, messageR}
 
@@ -46,7 +46,7 @@ record-octets = small-octets recordR refl
 -- its parts, by computation
 record-decoded : decodeOf recordR ≡ Read (updateParts Four recordR)
 unfolding
-    recordR decodeOf wrongSize wrongKind messageOf wrongPeer wrongFrame ones updateOf wrongSections wrongAttributes wrongBody wrongPrefix
+    recordR decodeOf wrongSize wrongMrtType messageOf wrongPeer wrongFrame ones updateOf wrongSections wrongAttributes wrongBody wrongPrefix
     numberAt wholeIn itemsIn prefixSize segmentSize lengthWidth attributeHeader bodySize attributeSize rawOf elem distinct bodyRight allRight
 record-decoded = refl
 

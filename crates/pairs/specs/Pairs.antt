@@ -5,12 +5,13 @@ use mathlib.Core.List.{List, [], _∷_}
 use Rattle.aspath.specs.Bogons.{Bogon}
 use Rattle.message.specs.Message.{Message}
 use Rattle.message.specs.Represents.{Represents}
+use Rattle.program.specs.Spent.{spending}
 use Rattle.program.specs.Readings.{Reading, weight}
 use Rattle.program.specs.Layout.{recordSize}
-use Rattle.truth.specs.Verdict.{Keeps, Drops, Steps}
+use Rattle.truth.specs.Verdict.{Keeps, Drops, Spends}
 use Rattle.filter.specs.declared.Refusal.{Refusal}
 use Rattle.filter.specs.Answers as words
-use Rattle.filter.specs.Answers.{numberOf, DerivedWithin, Answers, compiled}
+use Rattle.filter.specs.Answers.{numberOf, DerivedWithin, TextAnswers, compiled}
 use Rattle.pairs.specs.RecordR.{recordR, messageR}
 
 pub data Pair : Type 0 where
@@ -25,21 +26,21 @@ pub data Pair : Type 0 where
 pub record OnR (Verdict : Message → Reading → Type 0) (text : List ℕ) (count : ℕ) : Type 0 where
   pub reading : Reading
   pub derives : DerivedWithin text reading
-  pub compiles : Answers text (recordSize * weight reading) (compiled reading)
+  pub compiles : TextAnswers text (recordSize * weight reading) (compiled reading)
   pub verdict : Verdict messageR reading
-  pub counted : Steps messageR reading count
+  pub counted : Spends messageR reading (spending count)
 
-abbrev pub Holds : Pair → Type 0
-Holds (kept text count) = OnR Keeps text count
-Holds (dropped text count) = OnR Drops text count
-Holds (refused text number place) = (room : ℕ) → (why : Refusal) × (numberOf why ≡ number) × Answers text room (words.refused why place)
-Holds (bogon n) = Bogon n
-Holds (no-bogon n) = Bogon n → ⊥
+abbrev pub PairHolds : Pair → Type 0
+PairHolds (kept text count) = OnR Keeps text count
+PairHolds (dropped text count) = OnR Drops text count
+PairHolds (refused text number place) = (room : ℕ) → (why : Refusal) × (numberOf why ≡ number) × TextAnswers text room (words.refused why place)
+PairHolds (bogon n) = Bogon n
+PairHolds (no-bogon n) = Bogon n → ⊥
 
 -- each pair of a list holds
-pub data Each : List Pair → Type 0 where
-  none : Each []
-  more : {p : Pair} {ps : List Pair} → Holds p → Each ps → Each (p ∷ ps)
+pub data EachPair : List Pair → Type 0 where
+  none : EachPair []
+  more : {p : Pair} {ps : List Pair} → PairHolds p → EachPair ps → EachPair (p ∷ ps)
 
 -- the list of the paper, in its order
 unfoldable pub pairs : List Pair
@@ -48,7 +49,9 @@ pairs =
     ∷ dropped (45 ∷ 112 ∷ 101 ∷ 101 ∷ 114 ∷ 32 ∷ 50 ∷ 52 ∷ 50 ∷ 56 ∷ []) 1  -- -peer 2428
     ∷ kept (45 ∷ 97 ∷ 115 ∷ 112 ∷ 97 ∷ 116 ∷ 104 ∷ 32 ∷ 39 ∷ 51 ∷ 51 ∷ 51 ∷ 51 ∷ 36 ∷ 39 ∷ []) 1  -- -aspath '3333$'
     ∷ dropped (45 ∷ 97 ∷ 115 ∷ 112 ∷ 97 ∷ 116 ∷ 104 ∷ 32 ∷ 39 ∷ 94 ∷ 51 ∷ 51 ∷ 51 ∷ 51 ∷ 39 ∷ []) 1  -- -aspath '^3333'
-    ∷ dropped (45 ∷ 108 ∷ 111 ∷ 111 ∷ 112 ∷ 115 ∷ 32 ∷ 45 ∷ 97 ∷ 110 ∷ 100 ∷ 32 ∷ 45 ∷ 98 ∷ 111 ∷ 103 ∷ 111 ∷ 110 ∷ 45 ∷ 97 ∷ 115 ∷ 110 ∷ []) 2  -- -loops -and -bogon-asn
+    ∷ dropped
+    (45 ∷ 108 ∷ 111 ∷ 111 ∷ 112 ∷ 115 ∷ 32 ∷ 45 ∷ 97 ∷ 110 ∷ 100 ∷ 32 ∷ 45 ∷ 98 ∷ 111 ∷ 103 ∷ 111 ∷ 110 ∷ 45 ∷ 97 ∷ 115 ∷ 110 ∷ [])
+    2  -- -loops -and -bogon-asn
     ∷ kept (33 ∷ 32 ∷ 45 ∷ 108 ∷ 111 ∷ 111 ∷ 112 ∷ 115 ∷ []) 2  -- ! -loops
     ∷ kept (45 ∷ 115 ∷ 117 ∷ 98 ∷ 110 ∷ 101 ∷ 116 ∷ 32 ∷ 49 ∷ 48 ∷ 46 ∷ 48 ∷ 46 ∷ 48 ∷ 46 ∷ 48 ∷ 47 ∷ 56 ∷ []) 1  -- -subnet 10.0.0.0/8
     ∷ dropped (45 ∷ 101 ∷ 120 ∷ 97 ∷ 99 ∷ 116 ∷ 32 ∷ 45 ∷ 49 ∷ 48 ∷ 46 ∷ 49 ∷ 46 ∷ 50 ∷ 46 ∷ 48 ∷ 47 ∷ 50 ∷ 52 ∷ []) 1  -- -exact -10.1.2.0/24
@@ -62,4 +65,4 @@ pairs =
 pub record KnownPairs : Type 0 where
   -- R's bytes are R's message
   pub record-is : Represents messageR recordR
-  pub each : Each pairs
+  pub each : EachPair pairs

@@ -1,7 +1,7 @@
 -- Record R of document 01: its bytes, and the message that they are.
 use Prim.Native.Nat.{ℕ}
 use mathlib.Core.List.{List, [], _∷_}
-use Rattle.network.specs.declared.Network.{Network}
+use Rattle.network.specs.Networks.{addressBits, Network}
 use Rattle.aspath.specs.declared.Width.the-variants.{Four}
 use Rattle.aspath.specs.Members.{sequence}
 use Rattle.attributes.specs.Attribute.{origin, asPath, nextHop}
@@ -36,7 +36,7 @@ peerAddress = 3221225985
 
 -- 10.1.2.0/24
 abbrev announced : Network
-announced = record { address = 167838208; len = 24 }
+announced = record { bits = addressBits; address = 167838208; len = 24 }
 
 unfoldable pub messageR : Message
 messageR = record {
@@ -44,8 +44,8 @@ messageR = record {
   width = Four;
   peerAs = 199036;
   peerAddress = peerAddress;
-  kind = update;
+  type = update;
   withdrawn = [];
-  attributes = origin 0 ∷ asPath (record { kind = sequence; numbers = 199036 ∷ 3333 ∷ [] } ∷ []) ∷ nextHop peerAddress ∷ [];
+  attributes = origin 0 ∷ asPath (record { type = sequence; numbers = 199036 ∷ 3333 ∷ [] } ∷ []) ∷ nextHop peerAddress ∷ [];
   announced = announced ∷ [];
 }

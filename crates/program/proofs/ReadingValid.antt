@@ -9,15 +9,18 @@ use mathlib.Core.List.{List, [], _∷_, _++_, map, append-assoc, append-nil}
 use lib.ListN.{length, getD, length-append, List·getD-append}
 use lib.Seq.{getD-append-add}
 use Rattle.octets.specs.Lists.{Every, every-none, every-more}
+use Rattle.octets.proofs.Every.{every-append, every-map, every-place}
 use Rattle.aspath.specs.declared.Item.{Item}
 use Rattle.aspath.specs.Patterns.{Pattern}
-use Rattle.program.specs.Readings.{Test, typeIs, hasAttribute, pathMatches, peerIs, hasLoop, hasBogon, networkIs, timeIs, itemCount, Operator, Reading, test, neg, joint, weight}
-use Rattle.program.specs.Records.{Record, item, flip, pass, weightLimit, Code, ItemPossible, PeerPossible, NetworkPossible, TimePossible, Possible}
+use Rattle.program.specs.declared.Class.the-variants.{Test as aTest, Item as anItem}
+use Rattle.program.specs.Readings.{Test, typeIs, hasAttribute, pathMatches, peerIs, hasLoop, hasBogon, networkIs, timeIs, itemCount}
+use Rattle.program.specs.Readings.{Operator, Reading, test, neg, joint, weight}
+use Rattle.program.specs.Records.{Head, Record, head, item, flip, pass, weightLimit}
+use Rattle.program.specs.Records.{Code, ItemPossible, PeerPossible, NetworkPossible, TimePossible, PossibleHead, Possible}
+use Rattle.program.specs.Kinds.{classOf}
 use Rattle.program.specs.Compiling.{headOf, itemsOf, records, programOf}
-use Rattle.program.specs.Machine.{aTest, anItem, classOf, countOf}
-use Rattle.program.specs.Validity.{Grouped, end, more, Landing, at-end, on-record, Valid}
-use Rattle.octets.proofs.Every.{every-append, every-map, every-place}
-use Rattle.program.proofs.MachineLaws.{head-counts, head-test, length-records}
+use Rattle.program.specs.Validity.{Grouped, end, a-test, a-flip, a-pass, Landing, at-end, on-record, Valid}
+use Rattle.program.proofs.MachineLaws.{test-follows, length-records}
 
 -- ---- possible readings
 
@@ -50,7 +53,7 @@ weight-some (test t) = omega arith
 weight-some (neg r) = omega arith
 weight-some (joint o a b) = omega arith
 
-head-possible : (t : Test) → PossibleTest t → itemCount t < weightLimit → Possible (headOf t)
+head-possible : (t : Test) → PossibleTest t → itemCount t < weightLimit → PossibleHead (headOf t)
 unfolding headOf itemCount
 head-possible (typeIs c) p h = p
 head-possible (hasAttribute c) p h = p
@@ -88,31 +91,25 @@ records-possible (joint o a b) p h =
 -- the first record of a reading is a test
 records-start : (r : Reading) → classOf (getD (records r) 0 flip) ≡ aTest
 unfolding records
-records-start (test t) = head-test t
+records-start (test t) = refl
 records-start (neg r) = rw (List·getD-append (records r) (flip ∷ []) flip 0 (omega (arith, length-records r, weight-some r))) (records-start r)
 records-start (joint o a b) =
     rw (List·getD-append (records a) (pass o (length (records b)) ∷ records b) flip 0 (omega (arith, length-records a, weight-some a))) (records-start a)
 
 -- ---- groups
 
-head-no-item : (t : Test) → classOf (headOf t) ≡ anItem → ⊥
-head-no-item t e = let z : _≡_ {A = ℕ} 0 1 = cc (head-test t) in omega arith
-
 flip-no-item : classOf flip ≡ anItem → ⊥
-unfolding classOf
 flip-no-item e = let z : _≡_ {A = ℕ} 0 1 = cc in omega arith
 
 pass-no-item : (o : Operator) (count : ℕ) → classOf (pass o count) ≡ anItem → ⊥
-unfolding classOf
 pass-no-item o count e = let z : _≡_ {A = ℕ} 0 1 = cc in omega arith
 
 grouped-before : (r : Reading) {rest : List Record} → Grouped rest → Grouped (records r ++ rest)
-unfolding records countOf
-grouped-before (test t) g = more (itemsOf t) (head-no-item t) (sym (head-counts t)) g refl
-grouped-before (neg r) {rest} g = rw (append-assoc (records r) (flip ∷ []) rest) (grouped-before r (more [] flip-no-item refl g refl))
+unfolding records
+grouped-before (test t) g = a-test (test-follows t) g refl
+grouped-before (neg r) {rest} g = rw (append-assoc (records r) (flip ∷ []) rest) (grouped-before r (a-flip g))
 grouped-before (joint o a b) {rest} g =
-    rw (append-assoc (records a) (pass o (length (records b)) ∷ records b) rest)
-    (grouped-before a (more [] (pass-no-item o (length (records b))) refl (grouped-before b g) refl))
+    rw (append-assoc (records a) (pass o (length (records b)) ∷ records b) rest) (grouped-before a (a-pass (grouped-before b g)))
 
 -- each item of a reading's records stands with its path
 records-grouped : (r : Reading) → Grouped (records r)
@@ -162,14 +159,13 @@ lands-items : (is : List Item) → Lands (map item is)
 lands-items [] = lands-none
 lands-items (i ∷ is) = lands-cons (λ o count e. let z : _≡_ {A = ℕ} 0 1 = cc in absurd (omega arith)) (lands-items is)
 
-head-no-pass : (t : Test) (o : Operator) (count : ℕ) → headOf t ≡ pass o count → ⊥
-unfolding classOf
-head-no-pass t o count e = let z : _≡_ {A = ℕ} 0 1 = cc (head-test t, ap classOf e) in omega arith
+head-no-pass : (h : Head) (o : Operator) (count : ℕ) → head h ≡ pass o count → ⊥
+head-no-pass h o count e = let z : _≡_ {A = ℕ} 0 1 = cc in omega arith
 
 -- the passes of a reading's records land well
 records-land : (r : Reading) → Lands (records r)
 unfolding records
-records-land (test t) = lands-cons (λ o count e. absurd (head-no-pass t o count e)) (lands-items (itemsOf t))
+records-land (test t) = lands-cons (λ o count e. absurd (head-no-pass (headOf t) o count e)) (lands-items (itemsOf t))
 records-land (neg r) =
     lands-append (records-land r) flip-no-item
     (lands-cons (λ o count e. let z : _≡_ {A = ℕ} 0 1 = cc in absurd (omega arith)) lands-none)

@@ -1,7 +1,7 @@
 -- `isValid` decides `Valid`: each of its tests against its part of the words, over the records read. Assumes nothing.
 use Prim.Native.Nat.{ℕ, suc, _*_, _/_, _%_, _≤_}
 use native.Mathlib.Omega.{arith}
-use mathlib.Core.Path.{_≡_, sym, ap, _∙_}
+use mathlib.Core.Path.{_≡_, refl, sym, ap, _∙_}
 use mathlib.Core.Bool.{true}
 use mathlib.Core.List.{List}
 use lib.ListN.{length, getD, drop}
@@ -9,30 +9,45 @@ use lib.Dec.{eqb, leb}
 use borrow.Author.Tests.{leb-true, eqb-true, le-leb, eq-eqb}
 use Rattle.octets.specs.Numbers.{Octets}
 use Rattle.octets.specs.Lists.{Every}
-use Rattle.octets.proofs.Choices.{each}
+use Rattle.octets.specs.Rows.{whole}
+use Rattle.octets.proofs.Choices.{never, each}
+use Rattle.octets.proofs.Every.{every-place, every-places}
+use Rattle.program.specs.declared.Class.{Class}
+use Rattle.program.specs.declared.Class.the-variants.{Test as aTest, Item as anItem, Flip as aFlip, Pass as aPass, Unknown as unknown}
 use Rattle.program.specs.Records.{Record, flip, Possible, weightLimit}
-use Rattle.program.specs.Layout.{recordSize, encodeAll, isTestKind}
-use Rattle.program.specs.Machine.{recordsIn}
-use Rattle.program.specs.Validity.{Valid, allRightIn, groupedIn, landingIn, isValid}
+use Rattle.program.specs.Kinds.{classOf, classIs}
+use Rattle.program.specs.Layout.{recordSize, encodeAll, recordsIn}
+use Rattle.program.specs.Validity.{Valid}
+use Rattle.program.specs.Checks.{isTestClass, allRightIn, groupSize, landingIn, isValid}
 use Rattle.program.proofs.LayoutLaws.{encodeAll-length}
 use Rattle.program.proofs.RightLaws.{encode-right}
-use Rattle.octets.proofs.Every.{every-place}
-use Rattle.program.proofs.ValidKinds.{test-by-kind, kind-of-test}
+use Rattle.program.proofs.ValidKinds.{class-kind}
 use Rattle.program.proofs.ValidRecords.{Right, right-sound, encodeAll-at, kind-at}
-use Rattle.octets.proofs.Every.{every-places}
 use Rattle.program.proofs.ValidWalks.{walk-complete}
 use Rattle.program.proofs.Walks.{right-checks}
 use Rattle.program.proofs.ValidGroups.{grouped-sound, grouped-complete}
 use Rattle.program.proofs.ValidLandings.{landing-sound, landing-complete}
 
+-- the first byte says the first record's class
+first-class : (rs : List Record) → Every Possible rs → 1 ≤ length rs → classIs (getD (encodeAll rs) 0 0) ≡ classOf (getD rs 0 flip)
+first-class rs ps h = ap classIs (kind-at rs ps 0 h) ∙ class-kind (getD rs 0 flip)
+
+-- a class that is taken for a test's is one
+test-class : (c : Class) → isTestClass c ≡ true → c ≡ aTest
+test-class aTest e = refl
+test-class anItem e = never e
+test-class aFlip e = never e
+test-class aPass e = never e
+test-class unknown e = never e
+
 -- what each test of a program says
 record Tests (program : List ℕ) : Type 0 where
   some : recordSize ≤ length program
   few : length program ≤ recordSize * weightLimit
-  whole : length program % recordSize ≡ 0
+  exact : length program % recordSize ≡ 0
   right : allRightIn (length program) program ≡ true
-  starts : isTestKind (getD program 0 0) ≡ true
-  grouped : groupedIn (length program) 0 program ≡ true
+  starts : isTestClass (classIs (getD program 0 0)) ≡ true
+  grouped : whole groupSize program ≡ true
   lands : landingIn (length program) program ≡ true
 
 -- a program that passes the tests passes each
@@ -43,12 +58,12 @@ tests-sound program t =
     let b = each (leb (length program) (recordSize * weightLimit)) _ (a .1) in
     let c = each (eqb (length program % recordSize) 0) _ (b .1) in
     let d = each (allRightIn (length program) program) _ (c .1) in
-    let e = each (isTestKind (getD program 0 0)) _ (d .1) in
-    let f = each (groupedIn (length program) 0 program) (landingIn (length program) program) (e .1) in
+    let e = each (isTestClass (classIs (getD program 0 0))) _ (d .1) in
+    let f = each (whole groupSize program) (landingIn (length program) program) (e .1) in
     record {
       some = leb-true _ _ (a .0);
       few = leb-true _ _ (b .0);
-      whole = eqb-true _ _ (c .0);
+      exact = eqb-true _ _ (c .0);
       right = d .0;
       starts = e .0;
       grouped = f .0;
@@ -58,7 +73,7 @@ tests-sound program t =
 -- and the other way round
 tests-complete : {program : List ℕ} → Tests program → isValid program ≡ true
 unfolding isValid
-tests-complete t = rw (le-leb _ _ (t .some), le-leb _ _ (t .few), eq-eqb _ _ (t .whole), t .right, t .starts, t .grouped) (t .lands)
+tests-complete t = rw (le-leb _ _ (t .some), le-leb _ _ (t .few), eq-eqb _ _ (t .exact), t .right, t .starts, t .grouped) (t .lands)
 
 -- a program of records that passes the tests is valid
 records-valid : (program : List ℕ) (rs : List Record) → Right program rs → Tests program → Valid program
@@ -72,18 +87,27 @@ records-valid program rs r t =
       some = some;
       few = omega (arith, t .few);
       possible = every-place (r .possible) flip;
-      starts = test-by-kind (getD rs 0 flip) (ap isTestKind (sym (kind-at rs (r .possible) 0 some) ∙ ap (λ (l : List ℕ). getD l 0 0) (sym (r .encoded))) ∙ t .starts);
-      grouped = grouped-sound (length program) rs long (r .possible) (ap (groupedIn (length program) 0) (sym (r .encoded)) ∙ t .grouped);
+      starts = test-class (classOf (getD rs 0 flip))
+          (ap isTestClass (sym (first-class rs (r .possible) some) ∙ ap (λ (l : List ℕ). classIs (getD l 0 0)) (sym (r .encoded))) ∙ t .starts);
+      grouped = grouped-sound rs (r .possible) (ap (whole groupSize) (sym (r .encoded)) ∙ t .grouped);
       lands = landing-sound (length program) rs long (r .possible) (ap (landingIn (length program)) (sym (r .encoded)) ∙ t .lands);
     }
 
--- a program that is found valid is valid
-pub valid-sound : (program : List ℕ) → Octets program → isValid program ≡ true → Valid program
-valid-sound program o v =
+-- a program that is found valid is the bytes of the records read
+pub valid-records : (program : List ℕ) → Octets program → isValid program ≡ true → Right program (recordsIn program)
+valid-records program o v =
     let t = tests-sound program v in
     let n = length program / recordSize in
-    let e : length program ≡ recordSize * n = omega (arith, t .whole) in
-    records-valid program (recordsIn program) (right-sound n (length program) program e (omega arith) o (t .right)) t
+    let e : length program ≡ recordSize * n = omega (arith, t .exact) in
+    right-sound n (length program) program e (omega arith) o (t .right)
+
+-- and it has no more than a program may
+pub valid-few : (program : List ℕ) → isValid program ≡ true → length program ≤ recordSize * weightLimit
+valid-few program v = tests-sound program v .few
+
+-- so it is valid
+pub valid-sound : (program : List ℕ) → Octets program → isValid program ≡ true → Valid program
+valid-sound program o v = records-valid program (recordsIn program) (valid-records program o v) (tests-sound program v)
 
 module _ {program : List ℕ} (v : Valid program) where
   -- each of its records is possible
@@ -98,15 +122,14 @@ module _ {program : List ℕ} (v : Valid program) where
   tests-pass : Tests program
   tests-pass =
       let rs = v .records in
-      let long : length rs ≤ length program = omega (arith, valid-length) in
       record {
         some = omega (arith, valid-length, v .some);
         few = omega (arith, valid-length, v .few);
-        whole = omega (arith, valid-length);
+        exact = omega (arith, valid-length);
         right = ap (allRightIn (length program)) (v .laid)
             ∙ walk-complete right-checks (length program) rs (λ i h. rw (encodeAll-at rs i h) (encode-right (getD rs i flip) (v .possible i h) (encodeAll (drop (suc i) rs))));
-        starts = ap (λ (l : List ℕ). isTestKind (getD l 0 0)) (v .laid) ∙ ap isTestKind (kind-at rs every-possible 0 (v .some)) ∙ kind-of-test (getD rs 0 flip) (v .starts);
-        grouped = ap (groupedIn (length program) 0) (v .laid) ∙ grouped-complete (length program) rs long every-possible (v .grouped);
+        starts = ap (λ (l : List ℕ). isTestClass (classIs (getD l 0 0))) (v .laid) ∙ ap isTestClass (first-class rs every-possible (v .some) ∙ v .starts);
+        grouped = ap (whole groupSize) (v .laid) ∙ grouped-complete every-possible (v .grouped);
         lands = ap (landingIn (length program)) (v .laid) ∙ landing-complete (length program) rs every-possible (v .lands);
       }
 

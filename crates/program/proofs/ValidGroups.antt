@@ -1,160 +1,188 @@
--- What `groupedIn` decides: each record but an item has its count of items after it, by induction over the records. Assumes nothing.
-use Prim.Native.Nat.{ℕ, zero, suc, _-_, _≤_}
-use native.Mathlib.Nat.{not-suc-le-zero}
+-- What `whole groupSize` decides: each test is followed by what may follow it, which stands nowhere else. Assumes nothing.
+use Prim.Native.Nat.{ℕ, zero, suc, _+_, _*_, _≤_, _<_}
+use native.Mathlib.Nat.{lt-of-not-le, not-suc-le-zero}
+use native.Mathlib.Decide.{decLe}
 use native.Mathlib.Omega.{arith}
 use mathlib.Core.Path.{_≡_, refl, sym, ap, _∙_}
-use mathlib.Core.Bool.{true, false}
+use mathlib.Core.Bool.{Bool, true, false}
 use mathlib.Core.List.{List, [], _∷_, _++_, map}
-use mathlib.Core.Logic.{_⊎_, inl, inr}
-use lib.ListN.{length}
-use lib.Dec.{eqb}
-use borrow.Author.Tests.{le-ltb, eq-eqb, ne-eqb, eqb-true}
-use Rattle.octets.specs.Choice.{pick}
+use lib.ListN.{length, drop, length-append, length-drop, length-map}
+use lib.Seq.{drop-at}
+use lib.Dec.{ltb}
+use borrow.Author.Tests.{lt-ltb, le-ltb}
+use Rattle.octets.specs.Choice.{pick, both}
 use Rattle.octets.specs.Lists.{Every}
-use Rattle.octets.proofs.Choices.{never}
+use Rattle.octets.specs.Rows.{whole}
+use Rattle.octets.proofs.Choices.{never, each, pick-both}
+use Rattle.octets.proofs.Every.{every-front, every-rest, every-drop}
+use Rattle.octets.proofs.Rows.{Sizes, whole-end, whole-bad, whole-next}
 use Rattle.aspath.specs.declared.Item.{Item}
+use Rattle.program.specs.declared.Class.{Class}
+use Rattle.program.specs.declared.Class.the-variants.{Test as aTest, Item as anItem, Flip as aFlip, Pass as aPass, Unknown as unknown}
 use Rattle.program.specs.declared.Fields.{Fields}
-use Rattle.program.specs.Records.{Record, item, Possible}
-use Rattle.program.specs.Layout.{fieldsIn, encode, encodeAll}
-use Rattle.program.specs.Machine.{anItem, classOf, countOf}
-use Rattle.program.specs.Validity.{Grouped, end, more, leftAfter, groupedIn}
-use Rattle.program.proofs.ValidKinds.{IsItem, Leader, item-or-leader, record-read}
-use Rattle.program.proofs.ValidRecords.{after-record, record-long}
-use Rattle.octets.proofs.Every.{every-front, every-rest}
+use Rattle.program.specs.Readings.{Operator}
+use Rattle.program.specs.Records.{Head, Record, head, item, flip, pass, Possible, countOf, Follows}
+use Rattle.program.specs.Kinds.{classOf, classIs}
+use Rattle.program.specs.Layout.{recordSize, fieldsOf, fieldsIn, encode, encodeAll}
+use Rattle.program.specs.Validity.{Grouped, end, a-test, a-flip, a-pass}
+use Rattle.program.specs.Checks.{isItem, itemsStand, followingIn, followsIn, groupOf, groupSize}
+use Rattle.program.proofs.ValidKinds.{class-kind, head-following, item-is, is-item, record-read}
+use Rattle.program.proofs.ValidRecords.{after-record, record-long, encodeAll-drop}
 
--- ---- one record
+-- ---- items at the front
 
-module _ {r : Record} (p : Possible r) (rest : List ℕ) (f : ℕ) where
-  module _ (i : IsItem r) where
-    -- its kind, as read
-    kind : fieldsIn (encode r ++ rest) .kind ≡ 4
-    kind = ap (λ (x : Fields). x .kind) (record-read r p rest) ∙ i .kind
+-- they have no more bytes than there are
+items-fit : (n : ℕ) (l : List ℕ) → itemsStand n l ≡ true → recordSize * n ≤ length l
+unfolding itemsStand
+items-fit zero l e = omega arith
+items-fit (suc n) l e = go (decLe recordSize (length l)) (items-fit n (drop recordSize l))
+  where
+    go : Dec (recordSize ≤ length l) → (itemsStand n (drop recordSize l) ≡ true → recordSize * n ≤ length (drop recordSize l)) → recordSize * suc n ≤ length l
+    go (yes h) ih =
+        let x = each (isItem (fieldsIn l)) (itemsStand n (drop recordSize l)) (rw (le-ltb _ _ h) at e) in
+        omega (arith, ih (x .1), length-drop recordSize l)
+    go (no m) ih = never (rw (lt-ltb _ _ (lt-of-not-le m)) at e)
 
-    -- an item that is due
-    item-due : (n : ℕ) → groupedIn (suc f) (suc n) (encode r ++ rest) ≡ groupedIn f n rest
-    unfolding groupedIn leftAfter
-    item-due n =
-        let e : suc n - 1 ≡ n = omega arith in
-        rw (le-ltb _ _ (record-long r rest), kind, ne-eqb (suc n) 0 (λ z. omega arith), e, after-record r rest)
+-- an item, and those after it
+stand-next : (n : ℕ) (r : Record) → Possible r → (rest : List ℕ) → itemsStand (suc n) (encode r ++ rest) ≡ both (isItem (fieldsOf r)) (itemsStand n rest)
+unfolding itemsStand
+stand-next n r p rest = rw (le-ltb _ _ (record-long r rest), record-read r p rest, after-record r rest)
 
-    -- and one that isn't
-    item-stray : groupedIn (suc f) 0 (encode r ++ rest) ≡ false
-    unfolding groupedIn leftAfter
-    item-stray = rw (le-ltb _ _ (record-long r rest), kind)
+-- the records are so many items, and then others
+record Due (n : ℕ) (rs : List Record) : Type 0 where
+  its : List Item
+  rest : List Record
+  count : length its ≡ n
+  joined : rs ≡ map item its ++ rest
 
-  module _ (x : Leader r) where
-    -- its kind and its count, as read
-    no-item : fieldsIn (encode r ++ rest) .kind ≡ 4 → ⊥
-    no-item e = x .kind (ap (λ (y : Fields). y .kind) (sym (record-read r p rest)) ∙ e)
+stand-sound : (n : ℕ) (rs : List Record) → Every Possible rs → itemsStand n (encodeAll rs) ≡ true → Due n rs
+unfolding encodeAll itemsStand
+stand-sound zero rs ps e = record { its = []; rest = rs; count = refl; joined = refl }
+stand-sound (suc n) [] ps e = never e
+stand-sound (suc n) (r ∷ rs) ps e =
+    let x = each (isItem (fieldsOf r)) (itemsStand n (encodeAll rs)) (sym (stand-next n r (every-front ps) (encodeAll rs)) ∙ e) in
+    by (is-item r (x .0)) (stand-sound n rs (every-rest ps) (x .1))
+  where
+    by : (i : Item) × (r ≡ item i) → Due n rs → Due (suc n) (r ∷ rs)
+    by (i, q) d = record { its = i ∷ d .its; rest = d .rest; count = ap suc (d .count); joined = cc (q, d .joined) }
 
-    counted : pick (eqb (fieldsIn (encode r ++ rest) .kind) 3) (fieldsIn (encode r ++ rest) .count) 0 ≡ countOf r
-    counted = ap (λ (y : Fields). pick (eqb (y .kind) 3) (y .count) 0) (record-read r p rest) ∙ x .count
+stand-complete : (its : List Item) (rest : List Record) → Every Possible (map item its ++ rest) → itemsStand (length its) (encodeAll (map item its ++ rest)) ≡ true
+unfolding encodeAll itemsStand
+stand-complete [] rest ps = refl
+stand-complete (i ∷ its) rest ps =
+    stand-next (length its) (item i) (every-front ps) (encodeAll (map item its ++ rest))
+    ∙ pick-both (isItem (fieldsOf (item i))) (itemsStand (length its) (encodeAll (map item its ++ rest))) .1 (item-is i, stand-complete its rest (every-rest ps))
 
-    -- any other record, where no item is due
-    leader-first : groupedIn (suc f) 0 (encode r ++ rest) ≡ groupedIn f (countOf r) rest
-    unfolding groupedIn leftAfter
-    leader-first = rw (le-ltb _ _ (record-long r rest), ne-eqb _ _ no-item, counted, after-record r rest)
+-- ---- a record with those that follow it
 
-    -- and where one is
-    leader-early : (n : ℕ) → groupedIn (suc f) (suc n) (encode r ++ rest) ≡ false
-    unfolding groupedIn leftAfter
-    leader-early n = rw (le-ltb _ _ (record-long r rest), ne-eqb _ _ no-item, ne-eqb (suc n) 0 (λ z. omega arith))
+group-fits : (c : Class) (f : Fields) (l : List ℕ) → groupOf c f l ≤ recordSize + length l
+unfolding followsIn
+group-fits aTest f l = go (itemsStand (followingIn f) l) refl
+  where
+    go : (b : Bool) → itemsStand (followingIn f) l ≡ b → pick b (recordSize + recordSize * followingIn f) 0 ≤ recordSize + length l
+    go true e = omega (arith, items-fit (followingIn f) l e)
+    go false e = omega arith
+group-fits anItem f l = omega arith
+group-fits aFlip f l = omega arith
+group-fits aPass f l = omega arith
+group-fits unknown f l = omega arith
 
--- none is left at the end
-at-end : (f left : ℕ) → groupedIn f left [] ≡ eqb left 0
-unfolding groupedIn
-at-end zero left = refl
-at-end (suc f) left = refl
+-- it has no more bytes than there are
+pub group-sizes : Sizes groupSize
+unfolding groupSize
+group-sizes = record { fits = λ l. go l (decLe recordSize (length l)) }
+  where
+    go : (l : List ℕ) → Dec (recordSize ≤ length l) → groupSize l ≤ length l
+    go l (yes h) = rw (le-ltb _ _ h) (omega (arith, group-fits (classIs (fieldsIn l .kind)) (fieldsIn l) (drop recordSize l), length-drop recordSize l))
+    go l (no m) = rw (lt-ltb _ _ (lt-of-not-le m)) (omega arith)
 
--- an item's class
-item-class : (i : Item) → classOf (item i) ≡ anItem
-unfolding classOf
-item-class i = refl
+-- by its class
+group-class : (r : Record) → Possible r → (rest : List ℕ) → groupSize (encode r ++ rest) ≡ groupOf (classOf r) (fieldsOf r) rest
+unfolding groupSize
+group-class r p rest = rw (le-ltb _ _ (record-long r rest), record-read r p rest, after-record r rest, class-kind r) refl
+
+-- a test
+group-test : (h : Head) → Possible (head h) → (rest : List ℕ)
+    → groupSize (encode (head h) ++ rest) ≡ pick (itemsStand (countOf h) rest) (recordSize + recordSize * countOf h) 0
+unfolding followsIn fieldsOf
+group-test h p rest =
+    group-class (head h) p rest ∙ ap (λ (n : ℕ). pick (itemsStand n rest) (recordSize + recordSize * n) 0) (head-following h)
 
 -- ---- all records
 
--- the records are so many items, and then grouped ones
-record Due (left : ℕ) (rs : List Record) : Type 0 where
-  its : List Item
-  rest : List Record
-  count : length its ≡ left
-  grouped : Grouped rest
-  whole : rs ≡ map item its ++ rest
+module _ (r : Record) (rs : List Record) where
+  -- no group stands at the front
+  front-bad : groupSize (encode r ++ encodeAll rs) ≡ 0 → whole groupSize (encodeAll (r ∷ rs)) ≡ false
+  unfolding encodeAll
+  front-bad e = whole-bad groupSize (encode r ++ encodeAll rs) (omega (arith, record-long r (encodeAll rs))) e
 
--- where the test holds with some items due, the records are so
-due-sound : (f left : ℕ) (rs : List Record) → length rs ≤ f → Every Possible rs → groupedIn f left (encodeAll rs) ≡ true → Due left rs
-unfolding encodeAll
-due-sound f left [] h ps t =
-    record { its = []; rest = []; count = sym (eqb-true _ _ (sym (at-end f left) ∙ t)); grouped = end; whole = refl }
-due-sound zero left (r ∷ rs) h ps t = absurd (not-suc-le-zero h)
-due-sound (suc f) left (r ∷ rs) h ps t = by left (item-or-leader r) t (λ n. due-sound f n rs (omega arith) (every-rest ps))
+  -- one of so many records does
+  front-next : (n : ℕ) → groupSize (encode r ++ encodeAll rs) ≡ recordSize + recordSize * n → whole groupSize (encodeAll (r ∷ rs)) ≡ whole groupSize (encodeAll (drop n rs))
+  unfolding encodeAll
+  front-next n e =
+      let k : recordSize * suc n ≡ recordSize + recordSize * n = omega arith in
+      whole-next groupSize group-sizes (encode r ++ encodeAll rs) (λ z. omega arith)
+      ∙ ap (λ (m : ℕ). whole groupSize (drop m (encode r ++ encodeAll rs))) (e ∙ sym k)
+      ∙ ap (whole groupSize) (encodeAll-drop (suc n) (r ∷ rs))
+
+-- the records behind so many items
+behind : (its : List Item) (rest : List Record) (n : ℕ) → length its ≡ n → drop n (map item its ++ rest) ≡ rest
+behind its rest n e = drop-at (map item its) rest n (length-map its item ∙ e)
+
+-- records that the test takes are grouped, if fewer are
+sound-next : (f : ℕ) → ((rs : List Record) → length rs ≤ f → Every Possible rs → whole groupSize (encodeAll rs) ≡ true → Grouped rs)
+    → (rs : List Record) → length rs ≤ suc f → Every Possible rs → whole groupSize (encodeAll rs) ≡ true → Grouped rs
+sound-next f ih [] h ps t = end
+sound-next f ih (item i ∷ rs) h ps t = never (sym (front-bad (item i) rs (group-class (item i) (every-front ps) (encodeAll rs))) ∙ t)
+sound-next f ih (flip ∷ rs) h ps t =
+    a-flip (ih rs (omega arith) (every-rest ps) (sym (front-next flip rs 0 (group-class flip (every-front ps) (encodeAll rs))) ∙ t))
+sound-next f ih (pass o n ∷ rs) h ps t =
+    a-pass (ih rs (omega arith) (every-rest ps) (sym (front-next (pass o n) rs 0 (group-class (pass o n) (every-front ps) (encodeAll rs))) ∙ t))
+sound-next f ih (head x ∷ rs) h ps t = by (itemsStand (countOf x) (encodeAll rs)) refl
   where
-    p : Possible r
-    p = every-front ps
+    size : groupSize (encode (head x) ++ encodeAll rs) ≡ pick (itemsStand (countOf x) (encodeAll rs)) (recordSize + recordSize * countOf x) 0
+    size = group-test x (every-front ps) (encodeAll rs)
 
-    by : (n : ℕ) → IsItem r ⊎ Leader r → groupedIn (suc f) n (encode r ++ encodeAll rs) ≡ true
-        → ((m : ℕ) → groupedIn f m (encodeAll rs) ≡ true → Due m rs) → Due n (r ∷ rs)
-    by zero (inl i) u ih = never (sym (item-stray p (encodeAll rs) f i) ∙ u)
-    by (suc n) (inl i) u ih = front (ih n (sym (item-due p (encodeAll rs) f i n) ∙ u))
-      where
-        front : Due n rs → Due (suc n) (r ∷ rs)
-        front d = record { its = i .i ∷ d .its; rest = d .rest; count = ap suc (d .count); grouped = d .grouped; whole = cc (i .is, d .whole) }
-    by zero (inr x) u ih = lead (ih (countOf r) (sym (leader-first p (encodeAll rs) f x) ∙ u))
-      where
-        lead : Due (countOf r) rs → Due 0 (r ∷ rs)
-        lead d = record { its = []; rest = r ∷ rs; count = refl; grouped = more (d .its) (x .class) (d .count) (d .grouped) (ap (λ (l : List Record). r ∷ l) (d .whole)); whole = refl }
-    by (suc n) (inr x) u ih = never (sym (leader-early p (encodeAll rs) f x n) ∙ u)
+    joined : itemsStand (countOf x) (encodeAll rs) ≡ true → Due (countOf x) rs → Grouped (head x ∷ rs)
+    joined e d =
+        let rest : drop (countOf x) rs ≡ d .rest = ap (drop (countOf x)) (d .joined) ∙ behind (d .its) (d .rest) (countOf x) (d .count) in
+        let good : whole groupSize (encodeAll (d .rest)) ≡ true
+        = ap (λ (q : List Record). whole groupSize (encodeAll q)) (sym rest) ∙ sym (front-next (head x) rs (countOf x) (size ∙ rw e refl)) ∙ t in
+        let few : length (d .rest) ≤ f = omega (arith, ap length rest, length-drop (countOf x) rs) in
+        let possible : Every Possible (d .rest) = rw (← rest) (every-drop (countOf x) (every-rest ps)) in
+        a-test (record { items = d .its; are = refl; counted = d .count }) (ih (d .rest) few possible good) (ap (λ (l : List Record). head x ∷ l) (d .joined))
 
--- records that the test takes are grouped
-pub grouped-sound : (f : ℕ) (rs : List Record) → length rs ≤ f → Every Possible rs → groupedIn f 0 (encodeAll rs) ≡ true → Grouped rs
-grouped-sound f rs h ps t = whole (due-sound f 0 rs h ps t)
-  where
-    none : (its : List Item) (rest : List Record) → length its ≡ 0 → Grouped rest → rs ≡ map item its ++ rest → Grouped rs
-    none [] rest z g e = rw e g
-    none (i ∷ its) rest z g e = absurd (omega arith)
+    by : (b : Bool) → itemsStand (countOf x) (encodeAll rs) ≡ b → Grouped (head x ∷ rs)
+    by false e = never (sym (front-bad (head x) rs (size ∙ rw e refl)) ∙ t)
+    by true e = joined e (stand-sound (countOf x) rs (every-rest ps) e)
 
-    whole : Due 0 rs → Grouped rs
-    whole d = none (d .its) (d .rest) (d .count) (d .grouped) (d .whole)
+-- f bounds their number
+sound-up-to : (f : ℕ) (rs : List Record) → length rs ≤ f → Every Possible rs → whole groupSize (encodeAll rs) ≡ true → Grouped rs
+sound-up-to zero [] h ps t = end
+sound-up-to zero (r ∷ rs) h ps t = absurd (not-suc-le-zero h)
+sound-up-to (suc f) rs h ps t = sound-next f (sound-up-to f) rs h ps t
 
--- and the other way round
-due-complete : (f left : ℕ) (rs : List Record) → length rs ≤ f → Every Possible rs → Due left rs → groupedIn f left (encodeAll rs) ≡ true
-unfolding encodeAll
-due-complete f left [] h ps d = at-end f left ∙ eq-eqb _ _ (none (d .its) (d .count) (d .whole))
-  where
-    none : (its : List Item) → length its ≡ left → [] ≡ map item its ++ d .rest → left ≡ 0
-    none [] c e = sym c
-    none (i ∷ its) c e = cc
-due-complete zero left (r ∷ rs) h ps d = absurd (not-suc-le-zero h)
-due-complete (suc f) left (r ∷ rs) h ps d =
-    rw (← d .count) (by (d .its) (d .rest) (d .grouped) (d .whole) (λ n. due-complete f n rs (omega arith) (every-rest ps)))
-  where
-    p : Possible r
-    p = every-front ps
-
-    by : (its : List Item) (rest : List Record) → Grouped rest → r ∷ rs ≡ map item its ++ rest
-        → ((n : ℕ) → Due n rs → groupedIn f n (encodeAll rs) ≡ true) → groupedIn (suc f) (length its) (encode r ++ encodeAll rs) ≡ true
-    by [] rest end e ih = cc
-    by [] rest (more {r = q} its {rest = qs} n k g w) e ih = go (item-or-leader r)
-      where
-        same : r ≡ q
-        same = cc
-
-        go : IsItem r ⊎ Leader r → groupedIn (suc f) 0 (encode r ++ encodeAll rs) ≡ true
-        go (inl i) = absurd (n (ap classOf (sym same) ∙ i .class))
-        go (inr x) =
-            leader-first p (encodeAll rs) f x
-            ∙ ih (countOf r) (record { its = its; rest = qs; count = k ∙ ap countOf (sym same); grouped = g; whole = cc (e, w) })
-    by (i ∷ its) rest g e ih = go (item-or-leader r)
-      where
-        same : r ≡ item i
-        same = cc
-
-        go : IsItem r ⊎ Leader r → groupedIn (suc f) (suc (length its)) (encode r ++ encodeAll rs) ≡ true
-        go (inl x) =
-            item-due p (encodeAll rs) f x (length its)
-            ∙ ih (length its) (record { its = its; rest = rest; count = refl; grouped = g; whole = cc })
-        go (inr x) = absurd (x .class (ap classOf same ∙ item-class i))
+pub grouped-sound : (rs : List Record) → Every Possible rs → whole groupSize (encodeAll rs) ≡ true → Grouped rs
+grouped-sound rs ps t = sound-up-to (length rs) rs (omega arith) ps t
 
 -- grouped records are taken
-pub grouped-complete : (f : ℕ) (rs : List Record) → length rs ≤ f → Every Possible rs → Grouped rs → groupedIn f 0 (encodeAll rs) ≡ true
-grouped-complete f rs h ps g = due-complete f 0 rs h ps (record { its = []; rest = rs; count = refl; grouped = g; whole = refl })
+pub grouped-complete : {rs : List Record} → Every Possible rs → Grouped rs → whole groupSize (encodeAll rs) ≡ true
+unfolding encodeAll
+grouped-complete ps end = whole-end groupSize [] refl
+grouped-complete ps (a-flip {rest = rest} g) = front-next flip rest 0 (group-class flip (every-front ps) (encodeAll rest)) ∙ grouped-complete (every-rest ps) g
+grouped-complete ps (a-pass {o = o} {count = n} {rest = rest} g) =
+    front-next (pass o n) rest 0 (group-class (pass o n) (every-front ps) (encodeAll rest)) ∙ grouped-complete (every-rest ps) g
+grouped-complete {rs} ps (a-test {h = h} {rest = rest} x g e) = whole-is (x .items) (x .counted) (cc (x .are, e)) (λ qs. grouped-complete qs g)
+  where
+    whole-is : (its : List Item) → length its ≡ countOf h → rs ≡ head h ∷ (map item its ++ rest)
+        → (Every Possible rest → whole groupSize (encodeAll rest) ≡ true) → whole groupSize (encodeAll rs) ≡ true
+    whole-is its n q ih =
+        let all : Every Possible (head h ∷ (map item its ++ rest)) = rw (← q) ps in
+        let tail = map item its ++ rest in
+        let stand : itemsStand (countOf h) (encodeAll tail) ≡ true
+        = ap (λ (k : ℕ). itemsStand k (encodeAll tail)) (sym n) ∙ stand-complete its rest (every-rest all) in
+        let behind-all : drop (countOf h) tail ≡ rest = behind its rest (countOf h) n in
+        ap (λ (l : List Record). whole groupSize (encodeAll l)) q
+        ∙ front-next (head h) tail (countOf h) (group-test h (every-front all) (encodeAll tail) ∙ rw stand refl)
+        ∙ ap (λ (l : List Record). whole groupSize (encodeAll l)) behind-all
+        ∙ ih (rw (← behind-all) (every-drop (countOf h) (every-rest all)))

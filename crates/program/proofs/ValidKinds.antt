@@ -1,72 +1,97 @@
--- The kind and the count in a record's bytes, and what they say of its class, by cases of the record. Assumes nothing.
-use Prim.Native.Nat.{ℕ, _≤_, _<_}
-use native.Mathlib.Omega.{arith}
+-- The kind and the count in a record's bytes, and what they say of it. Assumes nothing.
 use mathlib.Core.Path.{_≡_, refl, sym, ap, _∙_}
 use mathlib.Core.Bool.{true}
 use mathlib.Core.List.{List, _++_}
-use mathlib.Core.Logic.{_⊎_, inl, inr}
+use Prim.Native.Nat.{ℕ}
 use lib.ListN.{getD}
-use lib.Dec.{eqb}
-use borrow.Author.Tests.{leb-true, eqb-false, ne-eqb}
-use Rattle.octets.specs.Choice.{pick}
+use Rattle.octets.proofs.Choices.{never}
 use Rattle.octets.proofs.Numbers.{number-one}
-use Rattle.octets.proofs.Choices.{never, second-chosen}
 use Rattle.aspath.specs.declared.Item.{Item}
 use Rattle.aspath.specs.declared.Item.the-variants.{Number, Other, Any}
 use Rattle.program.specs.declared.Fields.{Fields}
-use Rattle.program.specs.Readings.{byAs, byAddress, byBoth, Operator, and, or}
-use Rattle.program.specs.Records.{Record, type, attribute, path, item, peer, loops, bogon, network, time, flip, pass, Possible}
-use Rattle.program.specs.Layout.{fieldsOf, encode, fieldsIn, isTestKind}
-use Rattle.program.specs.Machine.{aTest, anItem, aFlip, aPass, classOf, countOf}
+use Rattle.program.specs.declared.Class.the-variants.{Test as aTest, Item as anItem}
+use Rattle.program.specs.Readings.{byAs, byAddress, byBoth, and, or}
+use Rattle.program.specs.Records.{Head, type, attribute, path, peer, loops, bogon, network, time, Record, head, item, flip, pass}
+use Rattle.program.specs.Records.{Possible, countOf}
+use Rattle.program.specs.Kinds.{classOf, classIs}
+use Rattle.program.specs.Layout.{headFields, itemFields, fieldsOf, encode, fieldsIn}
+use Rattle.program.specs.Checks.{isItem, followingIn}
 use Rattle.program.proofs.LayoutLaws.{fields-read, possible-fit}
 
--- a pass's kind and count in bytes
-pub record PassFields (r : Record) (n : ℕ) : Type 0 where
-  pub kind : 11 ≤ fieldsOf r .kind
-  pub count : fieldsOf r .count ≡ n
+-- ---- what fields say
 
--- a pass has these
-pub pass-fields : (o : Operator) (n : ℕ) → PassFields (pass o n) n
+head-class : (h : Head) → classIs (headFields h .kind) ≡ aTest
+unfolding classIs headFields
+head-class (type c) = refl
+head-class (attribute c) = refl
+head-class (path start end count) = refl
+head-class (peer (byAs n)) = refl
+head-class (peer (byAddress a)) = refl
+head-class (peer (byBoth a n)) = refl
+head-class loops = refl
+head-class bogon = refl
+head-class (network r n s) = refl
+head-class (time c seconds micros) = refl
+
+item-class : (i : Item) → classIs (itemFields i .kind) ≡ anItem
+unfolding classIs itemFields
+item-class (Number n) = refl
+item-class (Other n) = refl
+item-class Any = refl
+
+-- the kind of a record says its class
+pub class-kind : (r : Record) → classIs (fieldsOf r .kind) ≡ classOf r
+unfolding classIs fieldsOf
+class-kind (head h) = head-class h
+class-kind (item i) = item-class i
+class-kind flip = refl
+class-kind (pass and count) = refl
+class-kind (pass or count) = refl
+
+-- as many records follow a head as its fields say
+pub head-following : (h : Head) → followingIn (headFields h) ≡ countOf h
+unfolding followingIn headFields countOf
+head-following (type c) = refl
+head-following (attribute c) = refl
+head-following (path start end count) = refl
+head-following (peer (byAs n)) = refl
+head-following (peer (byAddress a)) = refl
+head-following (peer (byBoth a n)) = refl
+head-following loops = refl
+head-following bogon = refl
+head-following (network r n s) = refl
+head-following (time c seconds micros) = refl
+
+-- an item's fields are those of one
+pub item-is : (i : Item) → isItem (fieldsOf (item i)) ≡ true
+unfolding fieldsOf itemFields
+item-is (Number n) = refl
+item-is (Other n) = refl
+item-is Any = refl
+
+head-is-none : (h : Head) → isItem (headFields h) ≡ true → ⊥
+unfolding headFields
+head-is-none (type c) e = never e
+head-is-none (attribute c) e = never e
+head-is-none (path start end count) e = never e
+head-is-none (peer (byAs n)) e = never e
+head-is-none (peer (byAddress a)) e = never e
+head-is-none (peer (byBoth a n)) e = never e
+head-is-none loops e = never e
+head-is-none bogon e = never e
+head-is-none (network r n s) e = never e
+head-is-none (time c seconds micros) e = never e
+
+-- no other record's are
+pub is-item : (r : Record) → isItem (fieldsOf r) ≡ true → (i : Item) × (r ≡ item i)
 unfolding fieldsOf
-pass-fields and n = record { kind = omega arith; count = refl }
-pass-fields or n = record { kind = omega arith; count = refl }
+is-item (head h) e = absurd (head-is-none h e)
+is-item (item i) e = (i, refl)
+is-item flip e = never e
+is-item (pass and count) e = never e
+is-item (pass or count) e = never e
 
--- what a record is, with its kind and its count in bytes
-pub data Sort (r : Record) : Type 0 where
-  an-item : (i : Item) → r ≡ item i → classOf r ≡ anItem → fieldsOf r .kind ≡ 4 → Sort r
-  a-test : classOf r ≡ aTest → isTestKind (fieldsOf r .kind) ≡ true → pick (eqb (fieldsOf r .kind) 3) (fieldsOf r .count) 0 ≡ countOf r → Sort r
-  a-flip : classOf r ≡ aFlip → fieldsOf r .kind ≡ 10 → countOf r ≡ 0 → Sort r
-  a-pass : (o : Operator) (n : ℕ) → r ≡ pass o n → classOf r ≡ aPass o n → PassFields r n → countOf r ≡ 0 → Sort r
-
--- every record is one of these
-pub sort : (r : Record) → Sort r
-unfolding fieldsOf classOf countOf
-sort (type c) = a-test refl refl refl
-sort (attribute c) = a-test refl refl refl
-sort (path start end count) = a-test refl refl refl
-sort (item (Number n)) = an-item (Number n) refl refl refl
-sort (item (Other n)) = an-item (Other n) refl refl refl
-sort (item Any) = an-item Any refl refl refl
-sort (peer (byAs n)) = a-test refl refl refl
-sort (peer (byAddress a)) = a-test refl refl refl
-sort (peer (byBoth a n)) = a-test refl refl refl
-sort loops = a-test refl refl refl
-sort bogon = a-test refl refl refl
-sort (network r n s) = a-test refl refl refl
-sort (time c seconds micros) = a-test refl refl refl
-sort flip = a-flip refl refl refl
-sort (pass o count) = a-pass o count refl refl (pass-fields o count) refl
-
--- the range of a test's kind
-pub record TestKind (k : ℕ) : Type 0 where
-  pub low : k ≤ 9
-  pub other : k ≡ 4 → ⊥
-
--- what the test of it says
-pub test-range : {k : ℕ} → isTestKind k ≡ true → TestKind k
-test-range {k} e =
-    let b = second-chosen (eqb k 4) never (second-chosen (eqb k 0) never e .1) in
-    record { low = leb-true k 9 (b .1); other = eqb-false k 4 (b .0) }
+-- ---- the bytes of a record
 
 -- the fields are read back
 pub record-read : (r : Record) → Possible r → (rest : List ℕ) → fieldsIn (encode r ++ rest) ≡ fieldsOf r
@@ -76,81 +101,3 @@ record-read r p rest = fields-read (possible-fit r p) rest
 pub front-kind : (r : Record) → Possible r → (rest : List ℕ) → getD (encode r ++ rest) 0 0 ≡ fieldsOf r .kind
 unfolding fieldsIn
 front-kind r p rest = sym (number-one (encode r ++ rest) 0) ∙ ap (λ (f : Fields). f .kind) (record-read r p rest)
-
--- no item: a record that its count of items may follow
-pub record Leader (r : Record) : Type 0 where
-  pub class : classOf r ≡ anItem → ⊥
-  pub kind : fieldsOf r .kind ≡ 4 → ⊥
-  pub count : pick (eqb (fieldsOf r .kind) 3) (fieldsOf r .count) 0 ≡ countOf r
-
--- an item
-pub record IsItem (r : Record) : Type 0 where
-  pub i : Item
-  pub is : r ≡ item i
-  pub class : classOf r ≡ anItem
-  pub kind : fieldsOf r .kind ≡ 4
-
--- a record is an item or none
-pub item-or-leader : (r : Record) → IsItem r ⊎ Leader r
-item-or-leader r = go (sort r)
-  where
-    go : Sort r → IsItem r ⊎ Leader r
-    go (an-item i e c k) = inl (record { i = i; is = e; class = c; kind = k })
-    go (a-test c t n) = inr (record { class = λ e. let z : _≡_ {A = ℕ} 0 1 = cc in omega arith; kind = test-range {k = fieldsOf r .kind} t .other; count = n })
-    go (a-flip c k n) = inr (record { class = λ e. let z : _≡_ {A = ℕ} 0 1 = cc in omega arith; kind = λ e. omega arith; count = rw (k, n) refl })
-    go (a-pass o n e c x z) =
-        let m : fieldsOf r .kind ≡ 3 → ⊥ = λ q. omega arith in
-        inr (record { class = λ q. let w : _≡_ {A = ℕ} 0 1 = cc in omega arith; kind = λ q. omega arith; count = rw (ne-eqb _ _ m, z) refl })
-
--- a record of an item's class has its kind
-pub item-kind : (r : Record) → classOf r ≡ anItem → fieldsOf r .kind ≡ 4
-item-kind r c = go (item-or-leader r)
-  where
-    go : IsItem r ⊎ Leader r → fieldsOf r .kind ≡ 4
-    go (inl x) = x .kind
-    go (inr x) = absurd (x .class c)
-
--- and no other has
-pub other-kind : (r : Record) → (classOf r ≡ anItem → ⊥) → fieldsOf r .kind ≡ 4 → ⊥
-other-kind r f = go (item-or-leader r)
-  where
-    go : IsItem r ⊎ Leader r → fieldsOf r .kind ≡ 4 → ⊥
-    go (inl x) k = f (x .class)
-    go (inr x) k = x .kind k
-
--- a pass
-pub record IsPass (r : Record) : Type 0 where
-  pub operator : Operator
-  pub count : ℕ
-  pub is : r ≡ pass operator count
-  pub fields : PassFields r count
-
--- a record is a pass, or has a lesser kind
-pub pass-or-other : (r : Record) → IsPass r ⊎ (fieldsOf r .kind < 11)
-pass-or-other r = go (sort r)
-  where
-    go : Sort r → IsPass r ⊎ (fieldsOf r .kind < 11)
-    go (an-item i e c k) = inr (omega arith)
-    go (a-test c t n) = inr (omega (arith, test-range {k = fieldsOf r .kind} t))
-    go (a-flip c k n) = inr (omega arith)
-    go (a-pass o n e c x z) = inl (record { operator = o; count = n; is = e; fields = x })
-
--- a record with a test's kind is a test
-pub test-by-kind : (r : Record) → isTestKind (fieldsOf r .kind) ≡ true → classOf r ≡ aTest
-test-by-kind r t = go (sort r)
-  where
-    go : Sort r → classOf r ≡ aTest
-    go (an-item i e c k) = absurd (test-range {k = fieldsOf r .kind} t .other k)
-    go (a-test c u n) = c
-    go (a-flip c k n) = absurd (omega (arith, test-range {k = fieldsOf r .kind} t))
-    go (a-pass o n e c x z) = absurd (omega (arith, test-range {k = fieldsOf r .kind} t))
-
--- and a test has one
-pub kind-of-test : (r : Record) → classOf r ≡ aTest → isTestKind (fieldsOf r .kind) ≡ true
-kind-of-test r q = go (sort r)
-  where
-    go : Sort r → isTestKind (fieldsOf r .kind) ≡ true
-    go (an-item i e c k) = cc
-    go (a-test c t n) = t
-    go (a-flip c k n) = cc
-    go (a-pass o n e c x z) = cc

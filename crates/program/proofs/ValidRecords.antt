@@ -7,18 +7,16 @@ use mathlib.Core.Bool.{true}
 use mathlib.Core.List.{List, [], _∷_, _++_}
 use lib.ListN.{length, getD, take, drop, length-append, length-drop, take-append-drop}
 use lib.Seq.{getD-drop, drop-at, drop-nil, drop-drop, drop-cons}
-use borrow.Author.Tests.{le-leb, lt-leb, le-ltb}
+use borrow.Author.Tests.{le-ltb}
 use Rattle.octets.specs.Numbers.{Octets}
 use Rattle.octets.specs.Lists.{Every, every-none, every-more}
 use Rattle.octets.proofs.Bytes.{octets-drop}
 use Rattle.octets.proofs.Choices.{each}
-use Rattle.octets.proofs.Rows.{items-end, items-next}
 use Rattle.program.specs.Records.{Record, flip, Possible}
-use Rattle.program.specs.Layout.{recordSize, fieldsOf, encode, encodeAll, decode}
-use Rattle.program.specs.Machine.{wholeRecord, recordsIn}
-use Rattle.program.specs.Validity.{rightRecord, allRightIn}
-use Rattle.program.proofs.LayoutLaws.{encode-length, record-sizes}
-use Rattle.program.proofs.RightLaws.{encode-decode, right-possible}
+use Rattle.program.specs.Layout.{recordSize, fieldsOf, encode, encodeAll, recordsIn}
+use Rattle.program.specs.Checks.{rightRecord, allRightIn}
+use Rattle.program.proofs.LayoutLaws.{encode-length, records-none, records-next}
+use Rattle.program.proofs.RightLaws.{RightRecord, right-record}
 use Rattle.octets.proofs.Every.{every-place}
 use Rattle.program.proofs.ValidKinds.{front-kind}
 
@@ -33,7 +31,7 @@ pub record-long : (r : Record) (rest : List ℕ) → recordSize ≤ length (enco
 record-long r rest = rw length-append (omega (arith, encode-length r))
 
 -- the bytes from a record on
-encodeAll-drop : (n : ℕ) (rs : List Record) → drop (recordSize * n) (encodeAll rs) ≡ encodeAll (drop n rs)
+pub encodeAll-drop : (n : ℕ) (rs : List Record) → drop (recordSize * n) (encodeAll rs) ≡ encodeAll (drop n rs)
 unfolding encodeAll
 encodeAll-drop zero rs = refl
 encodeAll-drop (suc n) [] = drop-nil (recordSize * suc n)
@@ -57,16 +55,6 @@ kind-at rs ps n h =
 
 -- ---- records read of bytes
 
--- fewer bytes than a record's hold none
-pub records-none : (l : List ℕ) → length l < recordSize → recordsIn l ≡ []
-records-none l h = items-end wholeRecord decode l (rw (lt-leb _ _ h))
-
--- others hold the first record, and those after it
-pub records-next : (l : List ℕ) → recordSize ≤ length l → recordsIn l ≡ decode l ∷ recordsIn (drop recordSize l)
-records-next l h =
-    let e : wholeRecord l ≡ recordSize = rw (le-leb _ _ h) refl in
-    items-next wholeRecord decode record-sizes l (λ z. omega arith) ∙ ap (λ (n : ℕ). decode l ∷ recordsIn (drop n l)) e
-
 -- the bytes are those of records, each of which compiling could give
 pub record Right (l : List ℕ) (rs : List Record) : Type 0 where
   pub encoded : l ≡ encodeAll rs
@@ -81,13 +69,12 @@ right-sound (suc n) zero l e h o t = absurd (omega arith)
 right-sound (suc n) (suc f) l e h o t =
     let long : recordSize ≤ length l = omega arith in
     let b = each (rightRecord l) (allRightIn f (drop recordSize l)) (rw (le-ltb _ _ long) at t) in
-    joined long (b .0) (right-sound n f (drop recordSize l) (simp length-drop (omega arith)) (omega arith) (octets-drop recordSize o) (b .1))
+    joined long (right-record l o long (b .0)) (right-sound n f (drop recordSize l) (simp length-drop (omega arith)) (omega arith) (octets-drop recordSize o) (b .1))
   where
-    joined : recordSize ≤ length l → rightRecord l ≡ true → Right (drop recordSize l) (recordsIn (drop recordSize l)) → Right l (recordsIn l)
-    joined long right more =
-        let first : take recordSize l ≡ encode (decode l) = encode-decode l o long right in
-        rw (records-next l long)
+    joined : recordSize ≤ length l → RightRecord l → Right (drop recordSize l) (recordsIn (drop recordSize l)) → Right l (recordsIn l)
+    joined long r more =
+        rw (records-next l long (r .decoded))
         (record {
-          encoded = sym (take-append-drop recordSize l) ∙ cc (first, more .encoded);
-          possible = every-more (right-possible l o right) (more .possible);
+          encoded = sym (take-append-drop recordSize l) ∙ cc (r .bytes, more .encoded);
+          possible = every-more (r .possible) (more .possible);
         })

@@ -3,12 +3,13 @@ use Prim.Native.Nat.{ℕ}
 use mathlib.Core.List.{List, [], _∷_, _++_, map}
 use lib.ListN.{length}
 use Rattle.aspath.specs.declared.Item.{Item}
-use Rattle.program.specs.Readings.{Test, typeIs, hasAttribute, pathMatches, peerIs, hasLoop, hasBogon, networkIs, timeIs, Reading, test, neg, joint}
-use Rattle.program.specs.Records.{Record, type, attribute, path, item, peer, loops, bogon, network, time, flip, pass}
+use Rattle.program.specs.Readings.{Test, typeIs, hasAttribute, pathMatches, peerIs, hasLoop, hasBogon, networkIs, timeIs}
+use Rattle.program.specs.Readings.{Reading, test, neg, joint}
+use Rattle.program.specs.Records.{Head, type, attribute, path, peer, loops, bogon, network, time, Record, head, item, flip, pass}
 use Rattle.program.specs.Layout.{encodeAll}
 
 -- the record of a test, and its items
-unfoldable pub headOf : Test → Record
+unfoldable pub headOf : Test → Head
 headOf (typeIs c) = type c
 headOf (hasAttribute c) = attribute c
 headOf (pathMatches p) = path (p .start) (p .end) (length (p .items))
@@ -28,9 +29,13 @@ itemsOf hasBogon = []
 itemsOf (networkIs r n s) = []
 itemsOf (timeIs c s m) = []
 
--- a test is its record and its items; `!x` is x, then a flip; a joint is its left side, a pass over its right side, and that
+-- the records that follow a test's
+abbrev pub followingOf : Test → List Record
+followingOf t = map item (itemsOf t)
+
+-- a test is its record and those that follow it; `!x` is x, then a flip; a joint is its left side, a pass over its right side, and that
 unfoldable pub records : Reading → List Record
-records (test t) = headOf t ∷ map item (itemsOf t)
+records (test t) = head (headOf t) ∷ followingOf t
 records (neg r) = records r ++ (flip ∷ [])
 records (joint o a b) = records a ++ (pass o (length (records b)) ∷ records b)
 

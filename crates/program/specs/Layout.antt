@@ -1,20 +1,24 @@
 -- The bytes of a record: kind, variant, count (2 bytes), A, B (4 bytes each), 4 zero bytes. Big-endian, unused fields zero.
-use Prim.Native.Nat.{ℕ, _+_}
-use mathlib.Core.Bool.{Bool, true, false}
+use Prim.Native.Nat.{ℕ, zero, suc, _+_}
+use mathlib.Core.Bool.{Bool, true}
+use mathlib.Core.Option.{Option, none, some}
 use mathlib.Core.List.{List, [], _∷_, _++_}
-use lib.Dec.{eqb, leb}
-use Rattle.octets.specs.Choice.{pick}
+use lib.ListN.{length, drop}
+use lib.Dec.{eqb, leb, ltb}
+use Rattle.octets.specs.Choice.{pick, onward}
 use Rattle.octets.specs.Numbers.{numberAt, bytesOf}
-use Rattle.network.specs.declared.Network.{Network}
+use Rattle.network.specs.Networks.{addressBits, Network}
 use Rattle.network.specs.declared.Relation.{Relation}
 use Rattle.network.specs.declared.Relation.the-variants.{Exact, Supernet, Subnet, Related}
 use Rattle.aspath.specs.declared.Item.{Item}
 use Rattle.aspath.specs.declared.Item.the-variants.{Number, Other, Any}
 use Rattle.program.specs.declared.Fields.{Fields}
-use Rattle.program.specs.Readings.{Peer, byAs, byAddress, byBoth, Side, eitherSide, announced, withdrawn, Comparison, equal, below, atMost, above, atLeast, Operator, and, or}
-use Rattle.program.specs.Records.{Record, type, attribute, path, item, peer, loops, bogon, network, time, flip, pass}
+use Rattle.program.specs.Readings.{Peer, byAs, byAddress, byBoth, Side, eitherSide, announced, withdrawn}
+use Rattle.program.specs.Readings.{Comparison, equal, below, atMost, above, atLeast, and, or}
+use Rattle.program.specs.Records.{Head, type, attribute, path, peer, loops, bogon, network, time, Record, head, item, flip, pass}
+use Rattle.program.specs.Kinds.{typeKind, attributeKind, pathKind, itemKind, peerKind, loopsKind, bogonKind, networkKind, timeKind}
+use Rattle.program.specs.Kinds.{flipKind, andKind, orKind, operatorKind}
 
--- the bytes of a record
 abbrev pub recordSize : ℕ
 recordSize = 16
 
@@ -44,26 +48,29 @@ comparisonCode atMost = 2
 comparisonCode above = 3
 comparisonCode atLeast = 4
 
-abbrev pub operatorKind : Operator → ℕ
-operatorKind and = 11
-operatorKind or = 12
-
 -- the paper's table of kinds
+
+unfoldable pub headFields : Head → Fields
+headFields (type c) = fields typeKind 0 0 c 0
+headFields (attribute c) = fields attributeKind 0 0 c 0
+headFields (path start end count) = fields pathKind (endsCode start end) count 0 0
+headFields (peer (byAs n)) = fields peerKind 1 0 0 n
+headFields (peer (byAddress a)) = fields peerKind 2 0 a 0
+headFields (peer (byBoth a n)) = fields peerKind 3 0 a n
+headFields loops = fields loopsKind 0 0 0 0
+headFields bogon = fields bogonKind 0 0 0 0
+headFields (network r n s) = fields networkKind (relationCode r) (n .len) (n .address) (sideCode s)
+headFields (time c seconds micros) = fields timeKind (comparisonCode c) 0 seconds micros
+
+unfoldable pub itemFields : Item → Fields
+itemFields (Number n) = fields itemKind 0 0 n 0
+itemFields (Other n) = fields itemKind 1 0 n 0
+itemFields Any = fields itemKind 2 0 0 0
+
 unfoldable pub fieldsOf : Record → Fields
-fieldsOf (type c) = fields 1 0 0 c 0
-fieldsOf (attribute c) = fields 2 0 0 c 0
-fieldsOf (path start end count) = fields 3 (endsCode start end) count 0 0
-fieldsOf (item (Number n)) = fields 4 0 0 n 0
-fieldsOf (item (Other n)) = fields 4 1 0 n 0
-fieldsOf (item Any) = fields 4 2 0 0 0
-fieldsOf (peer (byAs n)) = fields 5 1 0 0 n
-fieldsOf (peer (byAddress a)) = fields 5 2 0 a 0
-fieldsOf (peer (byBoth a n)) = fields 5 3 0 a n
-fieldsOf loops = fields 6 0 0 0 0
-fieldsOf bogon = fields 7 0 0 0 0
-fieldsOf (network r n s) = fields 8 (relationCode r) (n .len) (n .address) (sideCode s)
-fieldsOf (time c seconds micros) = fields 9 (comparisonCode c) 0 seconds micros
-fieldsOf flip = fields 10 0 0 0 0
+fieldsOf (head h) = headFields h
+fieldsOf (item i) = itemFields i
+fieldsOf flip = fields flipKind 0 0 0 0
 fieldsOf (pass o count) = fields (operatorKind o) 0 count 0 0
 
 -- the bytes of fields
@@ -85,48 +92,73 @@ encodeAll (r ∷ more) = encode r ++ encodeAll more
 unfoldable pub fieldsIn : List ℕ → Fields
 fieldsIn l = fields (numberAt l 0 1) (numberAt l 1 1) (numberAt l 2 2) (numberAt l 4 4) (numberAt l 8 4)
 
--- 1 to 9 are the kinds of tests, but for an item's 4
-abbrev pub isTestKind : ℕ → Bool
-isTestKind k = pick (eqb k 0) false (pick (eqb k 4) false (leb k 9))
+-- what each code says, if it is one
 
-abbrev pub relationIs : ℕ → Relation
-relationIs v = pick (eqb v 0) Exact (pick (eqb v 1) Supernet (pick (eqb v 2) Subnet Related))
+abbrev pub relationIs : ℕ → Option Relation
+relationIs v = pick (eqb v 0) (some Exact) (pick (eqb v 1) (some Supernet) (pick (eqb v 2) (some Subnet) (pick (eqb v 3) (some Related) none)))
 
-abbrev pub sideIs : ℕ → Side
-sideIs b = pick (eqb b 0) eitherSide (pick (eqb b 1) announced withdrawn)
+abbrev pub sideIs : ℕ → Option Side
+sideIs b = pick (eqb b 0) (some eitherSide) (pick (eqb b 1) (some announced) (pick (eqb b 2) (some withdrawn) none))
 
-abbrev pub comparisonIs : ℕ → Comparison
-comparisonIs v = pick (eqb v 0) equal (pick (eqb v 1) below (pick (eqb v 2) atMost (pick (eqb v 3) above atLeast)))
+abbrev pub comparisonIs : ℕ → Option Comparison
+comparisonIs v =
+    pick (eqb v 0) (some equal)
+    (pick (eqb v 1) (some below) (pick (eqb v 2) (some atMost) (pick (eqb v 3) (some above) (pick (eqb v 4) (some atLeast) none))))
 
-abbrev pub itemIs : ℕ → ℕ → Item
-itemIs v a = pick (eqb v 0) (Number a) (pick (eqb v 1) (Other a) Any)
+abbrev pub itemIs : ℕ → ℕ → Option Item
+itemIs v a = pick (eqb v 0) (some (Number a)) (pick (eqb v 1) (some (Other a)) (pick (eqb v 2) (some Any) none))
 
-abbrev pub peerIs : ℕ → ℕ → ℕ → Peer
-peerIs v a b = pick (eqb v 1) (byAs b) (pick (eqb v 2) (byAddress a) (byBoth a b))
+abbrev pub peerIs : ℕ → ℕ → ℕ → Option Peer
+peerIs v a b = pick (eqb v 1) (some (byAs b)) (pick (eqb v 2) (some (byAddress a)) (pick (eqb v 3) (some (byBoth a b)) none))
 
--- variants 1 and 3 have `^`
+-- variants 1 and 3 have `^`, 2 and 3 `$`
 abbrev pub isStart : ℕ → Bool
 isStart v = pick (eqb v 1) true (eqb v 3)
 
+abbrev pub isEnd : ℕ → Bool
+isEnd v = leb 2 v
+
+abbrev pub pathIs : ℕ → ℕ → Option Head
+pathIs v count = pick (leb v 3) (some (path (isStart v) (isEnd v) count)) none
+
 -- the network of a network record
 abbrev pub operandOf : Fields → Network
-operandOf f = record { address = f .a; len = f .count }
+operandOf f = record { bits = addressBits; address = f .a; len = f .count }
 
--- the record that fields say, whatever stands in those that it leaves unused
-unfoldable pub recordIs : Fields → Record
+abbrev pub networkSaid : Option Relation → Network → Option Side → Option Head
+networkSaid r n s = onward r (λ x. onward s (λ y. some (network x n y)))
+
+-- the record that fields say, if their kind and variant are any, whatever stands in those that it leaves unused
+unfoldable pub recordIs : Fields → Option Record
 recordIs f =
-    pick (eqb (f .kind) 1) (type (f .a))
-    (pick (eqb (f .kind) 2) (attribute (f .a))
-    (pick (eqb (f .kind) 3) (path (isStart (f .variant)) (leb 2 (f .variant)) (f .count))
-    (pick (eqb (f .kind) 4) (item (itemIs (f .variant) (f .a)))
-    (pick (eqb (f .kind) 5) (peer (peerIs (f .variant) (f .a) (f .b)))
-    (pick (eqb (f .kind) 6) loops
-    (pick (eqb (f .kind) 7) bogon
-    (pick (eqb (f .kind) 8) (network (relationIs (f .variant)) (operandOf f) (sideIs (f .b)))
-    (pick (eqb (f .kind) 9) (time (comparisonIs (f .variant)) (f .a) (f .b))
-    (pick (eqb (f .kind) 11) (pass and (f .count))
-    (pick (eqb (f .kind) 12) (pass or (f .count)) flip))))))))))
+    pick (eqb (f .kind) typeKind) (some (head (type (f .a))))
+    (pick (eqb (f .kind) attributeKind) (some (head (attribute (f .a))))
+    (pick (eqb (f .kind) pathKind) (onward (pathIs (f .variant) (f .count)) (λ h. some (head h)))
+    (pick (eqb (f .kind) itemKind) (onward (itemIs (f .variant) (f .a)) (λ i. some (item i)))
+    (pick (eqb (f .kind) peerKind) (onward (peerIs (f .variant) (f .a) (f .b)) (λ p. some (head (peer p))))
+    (pick (eqb (f .kind) loopsKind) (some (head loops))
+    (pick (eqb (f .kind) bogonKind) (some (head bogon))
+    (pick (eqb (f .kind) networkKind) (onward (networkSaid (relationIs (f .variant)) (operandOf f) (sideIs (f .b))) (λ h. some (head h)))
+    (pick (eqb (f .kind) timeKind) (onward (comparisonIs (f .variant)) (λ c. some (head (time c (f .a) (f .b)))))
+    (pick (eqb (f .kind) flipKind) (some flip)
+    (pick (eqb (f .kind) andKind) (some (pass and (f .count)))
+    (pick (eqb (f .kind) orKind) (some (pass or (f .count))) none)))))))))))
 
--- the record at the front of bytes
-abbrev pub decode : List ℕ → Record
+-- the record at the front of bytes, if one stands there
+abbrev pub decode : List ℕ → Option Record
 decode l = recordIs (fieldsIn l)
+
+-- a record, and those after it
+abbrev pub onRecord : {A : Type 0} → Option Record → (Record → A) → A → A
+onRecord none next end = end
+onRecord (some r) next end = next r
+
+-- the records at the front of bytes, up to the end or to the first that is none; f bounds these
+unfoldable pub recordsUpTo : ℕ → List ℕ → List Record
+recordsUpTo zero l = []
+recordsUpTo (suc f) l =
+    pick (ltb (length l) recordSize) [] (onRecord (decode l) (λ r. r ∷ recordsUpTo f (drop recordSize l)) [])
+
+-- the records of a program
+abbrev pub recordsIn : List ℕ → List Record
+recordsIn program = recordsUpTo (length program) program

@@ -3,9 +3,11 @@ use Prim.Native.Nat.{ℕ, _+_}
 use mathlib.Core.Bool.{Bool, true, not}
 use lib.ListN.{length}
 use Rattle.octets.specs.Choice.{pick, both}
-use Rattle.network.specs.declared.Network.{Network}
+use Rattle.network.specs.Networks.{Network}
 use Rattle.network.specs.declared.Relation.{Relation}
 use Rattle.aspath.specs.Patterns.{Pattern}
+use Rattle.program.specs.declared.Spent.{Spent}
+use Rattle.program.specs.Spent.{nothing, oneStep, together}
 
 -- `-peer`: an AS number, an address, or both
 pub data Peer : Type 0 where
@@ -69,7 +71,9 @@ abbrev pub open′ : Operator → Bool → Bool
 open′ and a = a
 open′ or a = not a
 
--- the verdict and the steps (the paper's terms) where truth says which tests are true
+-- ---- what the code computes
+
+-- the verdict and what is spent, the steps (the paper's terms), where truth says which tests are true
 module _ (truth : Test → Bool) where
   unfoldable pub verdict : Reading → Bool
   verdict (test t) = truth t
@@ -77,7 +81,7 @@ module _ (truth : Test → Bool) where
   verdict (joint o a b) = joins o (verdict a) (verdict b)
 
   -- a test 1; `!x` one more than x; a joint the left side's plus 1, plus the right side's if the left didn't decide
-  unfoldable pub steps : Reading → ℕ
-  steps (test t) = 1
-  steps (neg r) = steps r + 1
-  steps (joint o a b) = steps a + 1 + pick (open′ o (verdict a)) (steps b) 0
+  unfoldable pub spent : Reading → Spent
+  spent (test t) = oneStep
+  spent (neg r) = together (spent r) oneStep
+  spent (joint o a b) = together (together (spent a) oneStep) (pick (open′ o (verdict a)) (spent b) nothing)

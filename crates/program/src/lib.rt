@@ -2,9 +2,66 @@
 ghost use mathlib.Core.Path.{_≡_};
 ghost use Prim.Native.Nat.{_+_, _≤_};
 ghost use lib.ListN.{drop, getD, length};
+ghost use Rattle.octets.specs.Rows.{whole};
 ghost use Rattle.octets.specs.Writes.{Written};
-ghost use Rattle.program.specs.Layout.{fieldsIn, laid, isTestKind};
-ghost use Rattle.program.specs.Validity.{rightCode, rightPath, rightItem, rightPeer, rightNetwork, rightTime, rightBare, rightPass, rightFields, rightRecord, allRightIn, leftAfter, groupedIn, landsWell, landingIn, isValid};
+ghost use Rattle.program.specs.Kinds.{classIs};
+ghost use Rattle.program.specs.Layout.{recordSize, fieldsIn, laid};
+ghost use Rattle.program.specs.Checks.{rightCode, rightPath, rightItem, rightPeer, rightNetwork, rightTime, rightBare, rightPass};
+ghost use Rattle.program.specs.Checks.{rightFields, rightRecord, allRightIn, isTestClass, isItemClass, isPassClass};
+ghost use Rattle.program.specs.Checks.{isItem, itemsStand, groupOf};
+ghost use Rattle.program.specs.declared.Class.the-variants.{Test};
+ghost use Rattle.program.specs.Checks.{followingIn, followsIn, groupSize, landsWell, landingIn, isValid};
+
+// The bytes of a record.
+pub const RECORD_SIZE: usize = 16;
+// The most records of a program, and its bytes then.
+pub const WEIGHT_LIMIT: usize = 512;
+
+pub const PROGRAM_LIMIT: usize = RECORD_SIZE * WEIGHT_LIMIT;
+// A count is less; a pass leaves room for itself and for what it decides on.
+const COUNT_LIMIT: u32 = WEIGHT_LIMIT as u32;
+
+const PASS_LIMIT: u32 = COUNT_LIMIT - 2;
+// A code is less; a fraction of a second in microseconds is less.
+pub const CODE_LIMIT: u32 = 256;
+
+pub const SECOND: u32 = 1000000;
+
+// The kinds of records.
+pub const TYPE: u32 = 1;
+
+pub const ATTRIBUTE: u32 = 2;
+
+pub const PATH: u32 = 3;
+
+pub const ITEM: u32 = 4;
+
+pub const PEER: u32 = 5;
+
+pub const LOOPS: u32 = 6;
+
+pub const BOGON: u32 = 7;
+
+pub const NETWORK: u32 = 8;
+
+pub const TIME: u32 = 9;
+
+pub const FLIP: u32 = 10;
+
+pub const AND: u32 = 11;
+
+pub const OR: u32 = 12;
+
+// The last variants of a path, an item, a network, a side and a comparison.
+pub const LAST_ENDS: u32 = 3;
+
+const LAST_ITEM: u32 = 2;
+
+pub const LAST_RELATION: u32 = 3;
+
+const LAST_SIDE: u32 = 2;
+
+const LAST_COMPARISON: u32 = 4;
 
 // The fields of a record: kind, variant, count, A and B.
 pub struct Fields {
@@ -15,10 +72,79 @@ pub struct Fields {
     pub b: u32,
 }
 
-// The items that still follow a path record, or that one stands wrong.
-enum Left {
-    Items(u32),
-    Wrong,
+// What judging spends: the steps.
+pub struct Spent {
+    pub steps: u32,
+}
+
+// What a record of a kind is; of a kind that is none, unknown.
+pub enum Class {
+    Test,
+    Item,
+    Flip,
+    Pass,
+    Unknown,
+}
+
+// The class of a kind.
+pub fn class_of(kind: u32) -> Class
+    ensures { λ r. ⌜ r ≡ classIs kind ⌝ }
+{
+    if TIME < kind {
+        if kind == FLIP {
+            return Class::Flip;
+        }
+        if kind == AND {
+            return Class::Pass;
+        }
+        if kind == OR {
+            return Class::Pass;
+        }
+        return Class::Unknown;
+    }
+    if kind == ITEM {
+        return Class::Item;
+    }
+    if kind < TYPE {
+        return Class::Unknown;
+    }
+    Class::Test
+}
+
+fn is_test(class: Class) -> bool
+    ensures { λ r. ⌜ r ≡ isTestClass class ⌝ }
+{
+    match class {
+        Class::Test => true,
+        Class::Item => false,
+        Class::Flip => false,
+        Class::Pass => false,
+        Class::Unknown => false,
+    }
+}
+
+fn is_item(class: Class) -> bool
+    ensures { λ r. ⌜ r ≡ isItemClass class ⌝ }
+{
+    match class {
+        Class::Test => false,
+        Class::Item => true,
+        Class::Flip => false,
+        Class::Pass => false,
+        Class::Unknown => false,
+    }
+}
+
+fn is_pass(class: Class) -> bool
+    ensures { λ r. ⌜ r ≡ isPassClass class ⌝ }
+{
+    match class {
+        Class::Test => false,
+        Class::Item => false,
+        Class::Flip => false,
+        Class::Pass => true,
+        Class::Unknown => false,
+    }
 }
 
 // The fields of the record at a place; past the end they are 0.
@@ -56,7 +182,7 @@ fn right_code(f: Fields) -> bool
     if f.count != 0 {
         return false;
     }
-    if 256 <= f.a {
+    if CODE_LIMIT <= f.a {
         return false;
     }
     f.b == 0
@@ -65,10 +191,10 @@ fn right_code(f: Fields) -> bool
 fn right_path(f: Fields) -> bool
     ensures { λ r. ⌜ r ≡ rightPath f ⌝ }
 {
-    if 3 < f.variant {
+    if LAST_ENDS < f.variant {
         return false;
     }
-    if 512 <= f.count {
+    if COUNT_LIMIT <= f.count {
         return false;
     }
     if f.a != 0 {
@@ -83,7 +209,7 @@ fn right_path(f: Fields) -> bool
 fn right_item(f: Fields) -> bool
     ensures { λ r. ⌜ r ≡ rightItem f ⌝ }
 {
-    if 2 < f.variant {
+    if LAST_ITEM < f.variant {
         return false;
     }
     if f.count != 0 {
@@ -92,7 +218,7 @@ fn right_item(f: Fields) -> bool
     if f.b != 0 {
         return false;
     }
-    if f.variant == 2 {
+    if f.variant == LAST_ITEM {
         return f.a == 0;
     }
     true
@@ -116,13 +242,13 @@ fn right_peer(f: Fields) -> bool
 fn right_network(f: Fields) -> bool
     ensures { λ r. ⌜ r ≡ rightNetwork f ⌝ }
 {
-    if 3 < f.variant {
+    if LAST_RELATION < f.variant {
         return false;
     }
-    if 32 < f.count {
+    if network::ADDRESS_BITS < f.count {
         return false;
     }
-    if 2 < f.b {
+    if LAST_SIDE < f.b {
         return false;
     }
     let n = network::network_of(f.a, f.count);
@@ -132,13 +258,13 @@ fn right_network(f: Fields) -> bool
 fn right_time(f: Fields) -> bool
     ensures { λ r. ⌜ r ≡ rightTime f ⌝ }
 {
-    if 4 < f.variant {
+    if LAST_COMPARISON < f.variant {
         return false;
     }
     if f.count != 0 {
         return false;
     }
-    f.b < 1000000
+    f.b < SECOND
 }
 
 fn right_bare(f: Fields) -> bool
@@ -165,7 +291,7 @@ fn right_pass(f: Fields) -> bool
     if f.count < 1 {
         return false;
     }
-    if 510 < f.count {
+    if PASS_LIMIT < f.count {
         return false;
     }
     if f.a != 0 {
@@ -179,42 +305,26 @@ fn right_fields(f: Fields) -> bool
     ensures { λ r. ⌜ r ≡ rightFields f ⌝ }
 {
     let kind = f.kind;
-    if kind == 0 {
-        return false;
+    match kind {
+        TYPE => right_code(f),
+        ATTRIBUTE => right_code(f),
+        PATH => right_path(f),
+        ITEM => right_item(f),
+        PEER => right_peer(f),
+        LOOPS => right_bare(f),
+        BOGON => right_bare(f),
+        NETWORK => right_network(f),
+        TIME => right_time(f),
+        FLIP => right_bare(f),
+        AND => right_pass(f),
+        OR => right_pass(f),
+        _ => false,
     }
-    if kind <= 2 {
-        return right_code(f);
-    }
-    if kind == 3 {
-        return right_path(f);
-    }
-    if kind == 4 {
-        return right_item(f);
-    }
-    if kind == 5 {
-        return right_peer(f);
-    }
-    if kind <= 7 {
-        return right_bare(f);
-    }
-    if kind == 8 {
-        return right_network(f);
-    }
-    if kind == 9 {
-        return right_time(f);
-    }
-    if kind == 10 {
-        return right_bare(f);
-    }
-    if kind <= 12 {
-        return right_pass(f);
-    }
-    false
 }
 
 // Whether the record at a place is one that compiling some text could give.
 fn right_record(program: &[u8], at: usize) -> bool
-    requires { ⌜ at + 16 ≤ length (now program) ⌝ }
+    requires { ⌜ at + recordSize ≤ length (now program) ⌝ }
     ensures { λ r. ⌜ r ≡ rightRecord (drop at (now (program .entry))) ⌝ }
 {
     if !right_fields(fields_at(program, at)) {
@@ -228,50 +338,107 @@ fn all_right(program: &[u8]) -> bool
     ensures { λ r. ⌜ r ≡ allRightIn (length (now (program .entry))) (now (program .entry)) ⌝ }
 {
     let mut at = 0;
-    while 16 <= program.len() - at {
+    while RECORD_SIZE <= program.len() - at {
         if !right_record(program, at) {
             return false;
         }
-        at += 16;
+        at += RECORD_SIZE;
     }
     true
 }
 
-// The items left after the record at a place, where left of them are due there; an item must stand just where one is due.
-fn left_after(program: &[u8], at: usize, left: u32) -> Left
-    ensures { λ r. ⌜ r ≡ leftAfter left (drop at (now (program .entry))) ⌝ }
+// Whether a record is an item.
+fn holds_item(f: Fields) -> bool
+    ensures { λ r. ⌜ r ≡ isItem f ⌝ }
 {
-    let f = fields_at(program, at);
-    if f.kind == 4 {
-        if left == 0 {
-            return Left::Wrong;
-        }
-        return Left::Items(left - 1);
+    if f.kind != ITEM {
+        return false;
     }
-    if left != 0 {
-        return Left::Wrong;
-    }
-    if f.kind == 3 {
-        return Left::Items(f.count);
-    }
-    Left::Items(0)
+    f.variant <= LAST_ITEM
 }
 
-// Whether each path record is followed by its count of items, and no item stands elsewhere.
-fn grouped(program: &[u8]) -> bool
-    ensures { λ r. ⌜ r ≡ groupedIn (length (now (program .entry))) 0 (now (program .entry)) ⌝ }
+// Whether so many items stand at the front of records.
+fn items_stand(records: &[u8], count: usize) -> bool
+    ensures { λ r. ⌜ r ≡ itemsStand count (now (records .entry)) ⌝ }
 {
-    let mut left: u32 = 0;
     let mut at = 0;
-    while 16 <= program.len() - at {
-        let after = left_after(program, at, left);
-        let Left::Items(n) = after else {
+    let mut left = count;
+    while 0 < left {
+        if records.len() - at < RECORD_SIZE {
             return false;
-        };
-        left = n;
-        at += 16;
+        }
+        if !holds_item(fields_at(records, at)) {
+            return false;
+        }
+        at += RECORD_SIZE;
+        left -= 1;
     }
-    left == 0
+    true
+}
+
+// How many records follow a record of these fields: the items of a path.
+pub fn following(f: Fields) -> u32
+    ensures { λ r. ⌜ r ≡ followingIn f ⌝ }
+{
+    if f.kind == PATH {
+        return f.count;
+    }
+    0
+}
+
+// Whether what may follow a record of these fields stands at the front of records.
+pub fn follows(f: Fields, records: &[u8]) -> bool
+    ensures { λ r. ⌜ r ≡ followsIn f (now (records .entry)) ⌝ }
+{
+    items_stand(records, following(f) as usize)
+}
+
+// The bytes of a test of these fields with the records from a place on that follow it, 0 where these aren't what may follow it.
+fn test_size(f: Fields, program: &[u8], next: usize) -> usize
+    ensures { λ r. ⌜ r ≡ groupOf Test f (drop next (now (program .entry))) ⌝ }
+{
+    let count = following(f) as usize;
+    if count == 0 {
+        return RECORD_SIZE;
+    }
+    if !items_stand(octets::rest(program, next), count) {
+        return 0;
+    }
+    RECORD_SIZE + RECORD_SIZE * count
+}
+
+// The bytes of the record at a place with those that follow it, 0 where it or they can't stand there.
+fn group_size(program: &[u8], at: usize) -> usize
+    requires { ⌜ at ≤ length (now program) ⌝ }
+    ensures { λ r. ⌜ r ≡ groupSize (drop at (now (program .entry))) ⌝ }
+{
+    if program.len() - at < RECORD_SIZE {
+        return 0;
+    }
+    let f = fields_at(program, at);
+    let class = class_of(f.kind);
+    match class {
+        Class::Test => test_size(f, program, at + RECORD_SIZE),
+        Class::Item => 0,
+        Class::Flip => RECORD_SIZE,
+        Class::Pass => RECORD_SIZE,
+        Class::Unknown => 0,
+    }
+}
+
+// Whether each test is followed by what may follow it, which stands nowhere else.
+fn grouped(program: &[u8]) -> bool
+    ensures { λ r. ⌜ r ≡ whole groupSize (now (program .entry)) ⌝ }
+{
+    let mut at = 0;
+    while at < program.len() {
+        let size = group_size(program, at);
+        if size == 0 {
+            return false;
+        }
+        at += size;
+    }
+    true
 }
 
 // Whether the record at a place is no pass, or one that lands on a record that is no item or exactly at the end.
@@ -280,14 +447,17 @@ fn lands(program: &[u8], at: usize) -> bool
 {
     let rest = octets::rest(program, at);
     let f = fields_at(program, at);
-    if f.kind < 11 {
+    if !is_pass(class_of(f.kind)) {
         return true;
     }
-    let target = 16 + 16 * (f.count as usize);
+    let target = RECORD_SIZE + RECORD_SIZE * (f.count as usize);
     if rest.len() < target {
         return false;
     }
-    octets::number(rest, target, 1) != 4
+    if is_item(class_of(octets::number(rest, target, 1))) {
+        return false;
+    }
+    true
 }
 
 // Whether every pass does.
@@ -295,46 +465,33 @@ fn landing(program: &[u8]) -> bool
     ensures { λ r. ⌜ r ≡ landingIn (length (now (program .entry))) (now (program .entry)) ⌝ }
 {
     let mut at = 0;
-    while 16 <= program.len() - at {
+    while RECORD_SIZE <= program.len() - at {
         if !lands(program, at) {
             return false;
         }
-        at += 16;
+        at += RECORD_SIZE;
     }
     true
 }
 
-// Whether a kind is that of a test.
-pub fn is_test(kind: u32) -> bool
-    ensures { λ r. ⌜ r ≡ isTestKind kind ⌝ }
-{
-    if kind == 0 {
-        return false;
-    }
-    if kind == 4 {
-        return false;
-    }
-    kind <= 9
-}
-
 // Whether a program begins with a test.
 fn starts(program: &[u8]) -> bool
-    ensures { λ r. ⌜ r ≡ isTestKind (getD (now (program .entry)) 0 0) ⌝ }
+    ensures { λ r. ⌜ r ≡ isTestClass (classIs (getD (now (program .entry)) 0 0)) ⌝ }
 {
-    is_test(octets::number(program, 0, 1))
+    is_test(class_of(octets::number(program, 0, 1)))
 }
 
 // Whether bytes are a valid program.
 pub fn is_valid(program: &[u8]) -> bool
     ensures { λ r. ⌜ r ≡ isValid (now (program .entry)) ⌝ }
 {
-    if program.len() < 16 {
+    if program.len() < RECORD_SIZE {
         return false;
     }
-    if 8192 < program.len() {
+    if PROGRAM_LIMIT < program.len() {
         return false;
     }
-    if program.len() % 16 != 0 {
+    if program.len() % RECORD_SIZE != 0 {
         return false;
     }
     if !all_right(program) {

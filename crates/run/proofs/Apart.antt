@@ -12,21 +12,21 @@ use Rattle.walk.specs.Steps.{stepAt}
 use Rattle.judge.specs.declared.Tally.{Tally}
 use Rattle.judge.specs.Tallies.{FullTally, oneKept, oneDropped, oneRefused}
 use Rattle.judge.specs.declared.Refusal.the-variants.{Program, Count, Record as OfRecord, Lines}
-use Rattle.judge.specs.Answers.{Outcome, kept, dropped, refused}
+use Rattle.judge.specs.Answers.{RecordOutcome, kept, dropped, refused}
 use Rattle.judge.specs.Functions.{Judging, ourJudge}
 use Rattle.judge.specs.Functions as judge
 use Rattle.judge.proofs.Alike.{judged-alike}
-use Rattle.run.specs.Runs.{Stepped, judged, State, moved, stepOn, stateOf, steppedBy, runnerOf}
+use Rattle.run.specs.Runs.{Stepped, judged, RunState, moved, stepOn, stateOf, steppedBy, runnerOf}
 use Rattle.run.specs.Damage.{NoneFull, OneMore, uncounted, counted, SameAnswer, Same, both-judged, both-done, both-cut}
 use Rattle.run.proofs.Behind.{onward, runs-behind}
 
 -- ---- one record
 
 -- one more seen and refused stays so after any outcome
-more-after : (o : Outcome) {a b : Option Tally} → OneMore a b → OneMore (judge.counted o a) (judge.counted o b)
+more-after : (o : RecordOutcome) {a b : Option Tally} → OneMore a b → OneMore (judge.counted o a) (judge.counted o b)
 more-after o uncounted = uncounted
-more-after (kept steps lines) (counted {t}) = counted {t = oneKept t}
-more-after (dropped steps) (counted {t}) = counted {t = oneDropped t}
+more-after (kept spent lines) (counted {t}) = counted {t = oneKept t}
+more-after (dropped spent) (counted {t}) = counted {t = oneDropped t}
 more-after (refused (OfRecord why)) (counted {t}) = counted {t = oneRefused t}
 more-after (refused Program) (counted {t}) = counted {t = t}
 more-after (refused Count) (counted {t}) = counted {t = t}
@@ -37,33 +37,33 @@ same-answer : (program bytes lines : List ℕ) {a b : Option Tally} → OneMore 
     → SameAnswer (ourJudge program bytes lines a) (ourJudge program bytes lines b)
 same-answer program bytes lines more m n =
     rw (judged-alike m n program bytes (length lines))
-    (record { same-number = refl; same-steps = refl; same-written = refl; same-lines = refl; one-more = more-after _ more })
+    (record { same-number = refl; same-spent = refl; same-written = refl; same-lines = refl; one-more = more-after _ more })
 
 -- ---- the runs
 
 module _ (program before damaged after : List ℕ) where
   -- a step of each, and the state after some
-  abbrev wholeStep : State → Stepped
+  abbrev wholeStep : RunState → Stepped
   wholeStep s = stepOn (runnerOf ourJudge) program (before ++ (damaged ++ after)) s
 
-  abbrev cleanStep : State → Stepped
+  abbrev cleanStep : RunState → Stepped
   cleanStep s = stepOn (runnerOf ourJudge) program (before ++ after) s
 
-  abbrev wholeState : State → ℕ → State
+  abbrev wholeState : RunState → ℕ → RunState
   wholeState s k = stateOf (runnerOf ourJudge) program (before ++ (damaged ++ after)) s k
 
-  abbrev cleanState : State → ℕ → State
+  abbrev cleanState : RunState → ℕ → RunState
   cleanState s k = stateOf (runnerOf ourJudge) program (before ++ after) s k
 
   -- as much of what follows is behind both, the line buffer is the same, and the tally is one more seen and refused
-  pub record Apart (a b : State) : Type 0 where
+  pub record Apart (a b : RunState) : Type 0 where
     pub gone : ℕ
     pub further-on : a .at ≡ length before + length damaged + gone
     pub placed : b .at ≡ length before + gone
     pub same-lines : a .lines ≡ b .lines
     pub one-more : OneMore (a .counting) (b .counting)
 
-  module _ {a b : State} (w : Apart a b) where
+  module _ {a b : RunState} (w : Apart a b) where
     -- the answers at such states are the same, and lead to such states
     abbrev Alike : Stepped → Stepped → Type 0
     Alike x y = Same (length damaged) x y × Apart (moved a x) (moved b y)
@@ -102,7 +102,7 @@ module _ (program before damaged after : List ℕ) where
         go Done e f = rw (e, f, w .same-lines) (both-done, still)
         go (Cut left) e f = rw (e, f, w .same-lines) (both-cut, still)
 
-  module _ (s : State) where
+  module _ (s : RunState) where
     -- no tally is full in either run, up to the step of the clean one
     abbrev Free : ℕ → Type 0
     Free k = NoneFull (runnerOf ourJudge) program (before ++ (damaged ++ after)) s (suc k) × NoneFull (runnerOf ourJudge) program (before ++ after) s k

@@ -19,7 +19,7 @@ use Rattle.judge.specs.Answers.{numberOf, refused}
 use Rattle.judge.specs.Functions.{Judging, ourJudge}
 use Rattle.judge.specs.Functions as judge
 use Rattle.judge.proofs.Answered.{refused-judged}
-use Rattle.run.specs.Runs.{judged, Runner, State, start, stateOf, answerOf, runnerOf}
+use Rattle.run.specs.Runs.{judged, Runner, RunState, start, stateOf, answerOf, runnerOf}
 use Rattle.run.specs.Damage.{NoneFull, OneMore, uncounted, counted, Refuses, Unshaken, ChangesNothing}
 use Rattle.run.proofs.Records.{judges, state-in, answer-in}
 use Rattle.run.proofs.Apart.{Apart, later-alike}
@@ -30,12 +30,12 @@ one-refused why none = uncounted
 one-refused why (some t) = counted
 
 -- a damaged record gets its refusal where the tally isn't full
-refuses : {program damaged : List ℕ} {why : Refusal} → Valid program → Octets damaged → RefusedWith damaged why → (s : State) → (FullTally (s .counting) → ⊥)
+refuses : {program damaged : List ℕ} {why : Refusal} → Valid program → Octets damaged → RefusedWith damaged why → (s : RunState) → (FullTally (s .counting) → ⊥)
     → Refuses s why (ourJudge program damaged (s .lines) (s .counting))
 unfolding numberOf
 refuses v o x s n =
     rw (refused-judged v n o x (length (s .lines)))
-    (record { numbered = refl; no-steps = refl; unwritten = refl; lines-left = refl; counts = one-refused _ (s .counting) })
+    (record { numbered = refl; nothing-spent = refl; unwritten = refl; lines-left = refl; counts = one-refused _ (s .counting) })
 
 -- what is asked of a run's first step, a tally that isn't full meets
 pub none-full-first : (runner : Runner) (program bytes lines : List ℕ) (counting : Option Tally) → (FullTally counting → ⊥)
@@ -50,10 +50,10 @@ none-full-first runner program bytes lines counting n = record { none-full = fir
 
 module _ (program before damaged after : List ℕ) {records : List (List ℕ)} (j : Joined IsRecord records before) (lines : List ℕ) (counting : Option Tally) where
   -- where each run has come to after the records before
-  abbrev wholeHere : State
+  abbrev wholeHere : RunState
   wholeHere = stateOf (runnerOf ourJudge) program (before ++ (damaged ++ after)) (start lines counting) (length records)
 
-  abbrev cleanHere : State
+  abbrev cleanHere : RunState
   cleanHere = stateOf (runnerOf ourJudge) program (before ++ after) (start lines counting) (length records)
 
   -- it is the same

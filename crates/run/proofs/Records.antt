@@ -10,7 +10,7 @@ use Rattle.walk.specs.Split.{IsRecord, placeIn}
 use Rattle.walk.proofs.Walks.{place-next, Stands, stands-step, stands-record, joined-stands}
 use Rattle.judge.specs.declared.Tally.{Tally}
 use Rattle.judge.specs.Functions.{Judge}
-use Rattle.run.specs.Runs.{Stepped, judged, State, start, moved, stateOf, answerOf, through, runnerOf}
+use Rattle.run.specs.Runs.{Stepped, judged, RunState, start, moved, stateOf, answerOf, through, runnerOf}
 
 module _ (judge : Judge) (program : List ℕ) where
   -- a step where a record stands judges it
@@ -31,7 +31,7 @@ module _ (judge : Judge) (program : List ℕ) where
       through-next rs k (omega arith) (j .lines) (j .tally)
 
   -- the state before the k-th of the records
-  abbrev pub stateIn : List (List ℕ) → List ℕ → Option Tally → ℕ → State
+  abbrev pub stateIn : List (List ℕ) → List ℕ → Option Tally → ℕ → RunState
   stateIn rs lines counting k =
       let x = through judge program (take k rs) lines counting in
       record { at = placeIn rs k; lines = x .0; counting = x .1 }

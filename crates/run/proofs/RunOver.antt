@@ -13,18 +13,18 @@ use Rattle.walk.proofs.Steps.{step-closes}
 use Rattle.walk.proofs.Walks.{place-end}
 use Rattle.judge.specs.declared.Tally.{Tally}
 use Rattle.judge.specs.Functions.{Judge}
-use Rattle.run.specs.Runs.{judged, Runner, State, start, moved, stateOf, answerOf, through, closed, RunsOver, steppedBy, runnerOf}
+use Rattle.run.specs.Runs.{judged, Runner, RunState, start, moved, stateOf, answerOf, through, closed, RunsOver, steppedBy, runnerOf}
 use Rattle.run.proofs.Records.{state-in, answer-in}
 
 -- where a step doesn't move a run, it stays
-stays : (runner : Runner) (program bytes : List ℕ) (s : State) (k n : ℕ) → moved (stateOf runner program bytes s k) (answerOf runner program bytes s k) ≡ stateOf runner program bytes s k
+stays : (runner : Runner) (program bytes : List ℕ) (s : RunState) (k n : ℕ) → moved (stateOf runner program bytes s k) (answerOf runner program bytes s k) ≡ stateOf runner program bytes s k
     → stateOf runner program bytes s (k + n) ≡ stateOf runner program bytes s k
 unfolding stateOf
 stays runner program bytes s k zero h = rw add-zero refl
 stays runner program bytes s k (suc n) h = rw (add-suc, stateOf, stays runner program bytes s k n h) h
 
 -- the closing answer doesn't
-closed-stays : (s : State) (rest : List ℕ) → moved s (closed rest (s .lines)) ≡ s
+closed-stays : (s : RunState) (rest : List ℕ) → moved s (closed rest (s .lines)) ≡ s
 closed-stays s [] = refl
 closed-stays s (b ∷ rest) = refl
 

@@ -8,15 +8,16 @@ use Rattle.octets.specs.Numbers.{Octets}
 use Rattle.octets.specs.Rows.{Joined}
 use Rattle.message.specs.declared.Refusal.{Refusal}
 use Rattle.message.specs.Refusals.{RefusedWith, number}
+use Rattle.program.specs.Spent.{nothing}
 use Rattle.program.specs.Validity.{Valid}
 use Rattle.walk.specs.Split.{IsRecord}
 use Rattle.judge.specs.declared.Tally.{Tally}
 use Rattle.judge.specs.Tallies.{FullTally, oneRefused}
 use Rattle.judge.specs.Functions.{Judging}
-use Rattle.run.specs.Runs.{Stepped, judged, done, cut, Runner, State, start, stateOf, answerOf}
+use Rattle.run.specs.Runs.{Stepped, judged, done, cut, Runner, RunState, start, stateOf, answerOf}
 
 -- no record of a run is judged with a full tally, up to the n-th step
-pub record NoneFull (runner : Runner) (program bytes : List ℕ) (s : State) (n : ℕ) : Type 0 where
+pub record NoneFull (runner : Runner) (program bytes : List ℕ) (s : RunState) (n : ℕ) : Type 0 where
   pub none-full : (k : ℕ) → k ≤ n → {j : Judging} {next : ℕ} → answerOf runner program bytes s k ≡ judged j next
       → FullTally (stateOf runner program bytes s k .counting) → ⊥
 
@@ -25,10 +26,10 @@ pub data OneMore : Option Tally → Option Tally → Type 0 where
   uncounted : OneMore none none
   counted : {t : Tally} → OneMore (some (oneRefused t)) (some t)
 
--- the same number, steps, bytes written and line buffer
+-- the same number, what was spent, bytes written and line buffer
 pub record SameAnswer (a b : Judging) : Type 0 where
   pub same-number : a .number ≡ b .number
-  pub same-steps : a .steps ≡ b .steps
+  pub same-spent : a .spent ≡ b .spent
   pub same-written : a .written ≡ b .written
   pub same-lines : a .lines ≡ b .lines
   pub one-more : OneMore (a .tally) (b .tally)
@@ -40,15 +41,15 @@ pub data Same (size : ℕ) : Stepped → Stepped → Type 0 where
   both-cut : {left : ℕ} {lines : List ℕ} → Same size (cut left lines) (cut left lines)
 
 -- the damaged record gets its refusal: no byte of the line buffer changes, and it counts as one seen and one refused
-pub record Refuses (s : State) (why : Refusal) (j : Judging) : Type 0 where
+pub record Refuses (s : RunState) (why : Refusal) (j : Judging) : Type 0 where
   pub numbered : j .number ≡ number why
-  pub no-steps : j .steps ≡ 0
+  pub nothing-spent : j .spent ≡ nothing
   pub unwritten : j .written ≡ 0
   pub lines-left : j .lines ≡ s .lines
   pub counts : OneMore (j .tally) (s .counting)
 
 -- what the damaged record does to a run that has come to it after some records
-pub record Unshaken (runner : Runner) (program before damaged after : List ℕ) (records : ℕ) (why : Refusal) (s : State) : Type 0 where
+pub record Unshaken (runner : Runner) (program before damaged after : List ℕ) (records : ℕ) (why : Refusal) (s : RunState) : Type 0 where
   -- earlier answers are the same
   pub earlier : (k : ℕ) → k < records → answerOf runner program (before ++ (damaged ++ after)) s k ≡ answerOf runner program (before ++ after) s k
   -- its own answer

@@ -27,31 +27,31 @@ Runner = List ℕ → List ℕ → ℕ → List ℕ → Option Tally → Stepped
 -- ---- one step after another
 
 -- what a step is handed
-pub record State : Type 0 where
+pub record RunState : Type 0 where
   pub at : ℕ
   pub lines : List ℕ
   pub counting : Option Tally
 
 -- at the start of the bytes
-abbrev pub start : List ℕ → Option Tally → State
+abbrev pub start : List ℕ → Option Tally → RunState
 start lines counting = record { at = 0; lines = lines; counting = counting }
 
 -- after a step: behind a record, with what judging it left; after done or cut it stays there, with the line buffer that the step left
-abbrev pub moved : State → Stepped → State
+abbrev pub moved : RunState → Stepped → RunState
 moved s (judged j next) = record { at = next; lines = j .lines; counting = j .tally }
 moved s (done lines) = record { at = s .at; lines = lines; counting = s .counting }
 moved s (cut left lines) = record { at = s .at; lines = lines; counting = s .counting }
 
 module _ (runner : Runner) (program bytes : List ℕ) where
-  abbrev pub stepOn : State → Stepped
+  abbrev pub stepOn : RunState → Stepped
   stepOn s = runner program bytes (s .at) (s .lines) (s .counting)
 
   -- before the k-th step, counted from 0, and what that step answers
-  unfoldable pub stateOf : State → ℕ → State
+  unfoldable pub stateOf : RunState → ℕ → RunState
   stateOf s zero = s
   stateOf s (suc k) = moved (stateOf s k) (stepOn (stateOf s k))
 
-  abbrev pub answerOf : State → ℕ → Stepped
+  abbrev pub answerOf : RunState → ℕ → Stepped
   answerOf s k = stepOn (stateOf s k)
 
 -- ---- the run over the records that the bytes split into
@@ -82,7 +82,8 @@ pub record RunsOver (judge : Judge) (runner : Runner) : Type 0 where
 
 -- the walk's step at the place, and its record judged
 abbrev pub steppedBy : Judge → List ℕ → List ℕ → List ℕ → Option Tally → Step → Stepped
-steppedBy judge program bytes lines counting (Record start len) = judged (judge program (recordOf bytes (Record start len)) lines counting) (start + len)
+steppedBy judge program bytes lines counting (Record start len) =
+    judged (judge program (recordOf bytes (Record start len)) lines counting) (start + len)
 steppedBy judge program bytes lines counting Done = done lines
 steppedBy judge program bytes lines counting (Cut left) = cut left lines
 

@@ -25,7 +25,8 @@ pub enum Ran {
 
 // The step at a place: the record that stands there is judged with the program, and counted.
 pub fn run_step(program: &[u8], bytes: &[u8], at: usize, lines: &mut [u8], tally: Tally) -> Ran
-    ensures { λ r. ⌜ stepped r (now (lines .exit)) ≡ runnerOf ourJudge (now (program .entry)) (now (bytes .entry)) at (now (lines .entry)) (some tally) ⌝ }
+    ensures { λ r. ⌜ stepped r (now (lines .exit))
+        ≡ runnerOf ourJudge (now (program .entry)) (now (bytes .entry)) at (now (lines .entry)) (some tally) ⌝ }
 {
     let step = walk::step_at(bytes, at);
     match step {

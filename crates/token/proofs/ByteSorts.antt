@@ -8,10 +8,10 @@ use borrow.Author.Tests.{eqb-true, eqb-false, ne-eqb}
 use Rattle.octets.specs.Choice.{pick}
 use Rattle.token.specs.Texts.{Blank, space, tab, lineFeed}
 use Rattle.token.specs.Tokens.{Token, open′, close, bang, Mark, opening, closing, banging, Letter, Inner, Stops, at-end, before}
-use Rattle.token.specs.Lexer.{Sort, blank, quote, letter, mark, sort}
+use Rattle.token.specs.Lexer.{ByteSort, blank, quote, letter, mark, byteSort}
 
 -- what a sort says of a byte, in words
-abbrev pub OfSort : ℕ → Sort → Type 0
+abbrev pub OfSort : ℕ → ByteSort → Type 0
 OfSort b blank = Blank b
 OfSort b (mark t) = Mark b t
 OfSort b quote = b ≡ 39
@@ -38,8 +38,8 @@ tells : (b n : ℕ) → Tells b (eqb b n) n
 tells b n = (eqb-true b n, eqb-false b n)
 
 -- the sort of a byte is told rightly
-pub sort-sound : (b : ℕ) → OfSort b (sort b)
-unfolding sort
+pub sort-sound : (b : ℕ) → OfSort b (byteSort b)
+unfolding byteSort
 sort-sound b = go (eqb b 32) (eqb b 9) (eqb b 10) (eqb b 40) (eqb b 41) (eqb b 33) (eqb b 39)
     (tells b 32) (tells b 9) (tells b 10) (tells b 40) (tells b 41) (tells b 33) (tells b 39)
   where
@@ -56,8 +56,8 @@ sort-sound b = go (eqb b 32) (eqb b 9) (eqb b 10) (eqb b 40) (eqb b 41) (eqb b 3
         record { no-blank = no-blanks (es .1 refl) (et .1 refl) (el .1 refl); no-mark = no-marks (eo .1 refl) (ec .1 refl) (ek .1 refl); no-quote = eq .1 refl }
 
 -- and a byte has no other sort
-pub sort-complete : (b : ℕ) (k : Sort) → OfSort b k → sort b ≡ k
-unfolding sort
+pub sort-complete : (b : ℕ) (k : ByteSort) → OfSort b k → byteSort b ≡ k
+unfolding byteSort
 sort-complete b blank space = refl
 sort-complete b blank tab = refl
 sort-complete b blank lineFeed = refl
@@ -81,11 +81,11 @@ pub quote-stops : {bs : List ℕ} → Stops (39 ∷ bs)
 quote-stops = before (λ l. l .no-quote refl)
 
 -- a byte that isn't a letter ends a word
-pub other-stops : {b : ℕ} {bs : List ℕ} (k : Sort) → OfSort b k → (k ≡ letter → ⊥) → Stops (b ∷ bs)
+pub other-stops : {b : ℕ} {bs : List ℕ} (k : ByteSort) → OfSort b k → (k ≡ letter → ⊥) → Stops (b ∷ bs)
 other-stops {b} k h n = before (λ l. n (sym (sort-complete b k h) ∙ sort-complete b letter l))
 
 -- a byte of another sort than a quote is one of a quoted token
-pub other-inner : {b : ℕ} (k : Sort) → OfSort b k → (k ≡ quote → ⊥) → Inner b
+pub other-inner : {b : ℕ} (k : ByteSort) → OfSort b k → (k ≡ quote → ⊥) → Inner b
 other-inner {b} k h n = record { no-quote = λ e. n (sym (sort-complete b k h) ∙ sort-complete b quote e) }
 
 -- where a word ends in the front of bytes, it ends there

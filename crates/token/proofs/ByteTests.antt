@@ -6,7 +6,7 @@ use borrow.Author.Tests.{eqb-true, eqb-false, ne-eqb, not-true, not-false}
 use Rattle.octets.proofs.Choices.{never}
 use Rattle.token.specs.Texts.{Blank, space, tab, lineFeed}
 use Rattle.token.specs.Tokens.{open′, close, bang, opening, closing, banging, Letter, Inner}
-use Rattle.token.specs.Lexer.{Sort, blank, quote, letter, mark, sort}
+use Rattle.token.specs.Lexer.{ByteSort, blank, quote, letter, mark, byteSort}
 use Rattle.token.specs.Next.{isBlank, isLetter, isInner}
 use Rattle.token.proofs.ByteSorts.{OfSort, sort-sound}
 
@@ -29,9 +29,9 @@ letter-blank b l = rw (
 -- what passes is a blank
 pub blank-sound : (b : ℕ) → isBlank b ≡ true → Blank b
 unfolding isBlank
-blank-sound b = go b (sort b) (sort-sound b)
+blank-sound b = go b (byteSort b) (sort-sound b)
   where
-    go : (b : ℕ) (s : Sort) → OfSort b s → isBlank b ≡ true → Blank b
+    go : (b : ℕ) (s : ByteSort) → OfSort b s → isBlank b ≡ true → Blank b
     go b blank k e = k
     go b (mark t) opening e = never e
     go b (mark t) closing e = never e
@@ -57,9 +57,9 @@ letter-complete b l = rw (
 -- what passes is a letter
 pub letter-sound : (b : ℕ) → isLetter b ≡ true → Letter b
 unfolding isLetter isBlank
-letter-sound b = go b (sort b) (sort-sound b)
+letter-sound b = go b (byteSort b) (sort-sound b)
   where
-    go : (b : ℕ) (s : Sort) → OfSort b s → isLetter b ≡ true → Letter b
+    go : (b : ℕ) (s : ByteSort) → OfSort b s → isLetter b ≡ true → Letter b
     go b blank space e = never e
     go b blank tab e = never e
     go b blank lineFeed e = never e

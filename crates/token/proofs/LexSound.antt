@@ -9,7 +9,7 @@ use Rattle.octets.specs.Lists.{Every, every-none, every-more}
 use Rattle.octets.proofs.Every.{every-append}
 use Rattle.token.specs.Texts.{Blank}
 use Rattle.token.specs.Tokens.{Word, Token, word, quoted, Mark, Letter, Inner, Stops, at-end, Placed, placed, Lexes, nothing, blanks, marks, words, quotes}
-use Rattle.token.specs.Lexer.{Sort, blank, quote, letter, mark, sort, Lexed, tokens, unclosed, Mode, between, in-word, in-quote, eat, emit, lex}
+use Rattle.token.specs.Lexer.{ByteSort, blank, quote, letter, mark, byteSort, Lexed, tokens, unclosed, Mode, between, in-word, in-quote, eat, emit, lex}
 use Rattle.token.proofs.ByteSorts.{OfSort, sort-sound, other-stops, other-inner, stops-front}
 use Rattle.token.proofs.Lexer.{lex-eat, emit-none, quote-step, word-stop, lex-blank, lex-mark}
 
@@ -95,7 +95,7 @@ abbrev Rest : ℕ → List ℕ → Type 0
 Rest n bs = (m : Mode) → Fits m (suc n) → Wrote m (suc n) bs (lex m (suc n) bs)
 
 -- a byte between tokens
-between-sound : (n b : ℕ) (bs : List ℕ) → Rest n bs → (k : Sort) → OfSort b k → Right n (b ∷ bs) (lex between n (b ∷ bs))
+between-sound : (n b : ℕ) (bs : List ℕ) → Rest n bs → (k : ByteSort) → OfSort b k → Right n (b ∷ bs) (lex between n (b ∷ bs))
 unfolding eat
 between-sound n b bs g blank h = same (lex-blank n bs h) (right-blank h (g between tt))
 between-sound n b bs g (mark t) h = same (lex-mark n bs h) (right-mark h (g between tt))
@@ -103,14 +103,14 @@ between-sound n b bs g quote h = same (lex-eat between n b bs quote h ∙ emit-n
 between-sound n b bs g letter h = same (lex-eat between n b bs letter h ∙ emit-none _) (g (in-word n b []) (h, every-none, omega arith))
 
 -- a byte that ends a word
-word-ends : (p c : ℕ) (w : Word) (b : ℕ) (bs : List ℕ) → Letter c → Every Letter w → Rest (suc p + length w) bs → (k : Sort) → OfSort b k → (k ≡ letter → ⊥)
+word-ends : (p c : ℕ) (w : Word) (b : ℕ) (bs : List ℕ) → Letter c → Every Letter w → Rest (suc p + length w) bs → (k : ByteSort) → OfSort b k → (k ≡ letter → ⊥)
     → Right p (c ∷ (w ++ (b ∷ bs))) (lex (in-word p c w) (suc p + length w) (b ∷ bs))
 word-ends p c w b bs l a g k h n =
     let z : Stops (b ∷ bs) = other-stops k h n in
     same (word-stop p c (suc p + length w) w z) (right-word l a z (between-sound (suc p + length w) b bs g k h))
 
 -- a byte in or behind a word
-word-sound : (p c : ℕ) (w : Word) (b : ℕ) (bs : List ℕ) → Letter c → Every Letter w → Rest (suc p + length w) bs → (k : Sort) → OfSort b k
+word-sound : (p c : ℕ) (w : Word) (b : ℕ) (bs : List ℕ) → Letter c → Every Letter w → Rest (suc p + length w) bs → (k : ByteSort) → OfSort b k
     → Right p (c ∷ (w ++ (b ∷ bs))) (lex (in-word p c w) (suc p + length w) (b ∷ bs))
 unfolding eat
 word-sound p c w b bs l a g letter h = same (lex-eat (in-word p c w) (suc p + length w) b bs letter h ∙ emit-none _)
@@ -120,7 +120,7 @@ word-sound p c w b bs l a g (mark t) h = word-ends p c w b bs l a g (mark t) h (
 word-sound p c w b bs l a g quote h = word-ends p c w b bs l a g quote h (λ e. let z : _≡_ {A = ℕ} 0 1 = cc in omega arith)
 
 -- a byte of a quoted token
-quote-on : (p : ℕ) (w : Word) (b : ℕ) (bs : List ℕ) → Every Inner w → Rest (suc p + length w) bs → (k : Sort) → OfSort b k → (k ≡ quote → ⊥)
+quote-on : (p : ℕ) (w : Word) (b : ℕ) (bs : List ℕ) → Every Inner w → Rest (suc p + length w) bs → (k : ByteSort) → OfSort b k → (k ≡ quote → ⊥)
     → Right p (39 ∷ (w ++ (b ∷ bs))) (lex (in-quote p w) (suc p + length w) (b ∷ bs))
 quote-on p w b bs a g k h n =
     let i : Inner b = other-inner k h n in
@@ -128,7 +128,7 @@ quote-on p w b bs a g k h n =
     (rw (append-assoc w (b ∷ []) bs) at (g (in-quote p (w ++ (b ∷ []))) (every-append a (every-more i every-none), omega (arith, length-append w (b ∷ [])))))
 
 -- a byte behind an opened quote
-quote-sound : (p : ℕ) (w : Word) (b : ℕ) (bs : List ℕ) → Every Inner w → Rest (suc p + length w) bs → (k : Sort) → OfSort b k
+quote-sound : (p : ℕ) (w : Word) (b : ℕ) (bs : List ℕ) → Every Inner w → Rest (suc p + length w) bs → (k : ByteSort) → OfSort b k
     → Right p (39 ∷ (w ++ (b ∷ bs))) (lex (in-quote p w) (suc p + length w) (b ∷ bs))
 unfolding eat
 quote-sound p w b bs a g quote h = same (lex-eat (in-quote p w) (suc p + length w) b bs quote h) (rw h (right-quote a (g between tt)))
@@ -141,9 +141,9 @@ lex-sound : (bs : List ℕ) (m : Mode) (n : ℕ) → Fits m n → Wrote m n bs (
 lex-sound [] between n f = unfold lex in lexes nothing
 lex-sound [] (in-word p c w) n f = unfold lex in lexes (words w (f .0) (f .1) at-end nothing refl)
 lex-sound [] (in-quote p w) n f = unfold lex in rw (append-nil w) (right-open (f .0))
-lex-sound (b ∷ bs) between n f = between-sound n b bs (λ m. lex-sound bs m (suc n)) (sort b) (sort-sound b)
-lex-sound (b ∷ bs) (in-word p c w) n f = rw (f .2) (word-sound p c w b bs (f .0) (f .1) (λ m. lex-sound bs m (suc (suc p + length w))) (sort b) (sort-sound b))
-lex-sound (b ∷ bs) (in-quote p w) n f = rw (f .1) (quote-sound p w b bs (f .0) (λ m. lex-sound bs m (suc (suc p + length w))) (sort b) (sort-sound b))
+lex-sound (b ∷ bs) between n f = between-sound n b bs (λ m. lex-sound bs m (suc n)) (byteSort b) (sort-sound b)
+lex-sound (b ∷ bs) (in-word p c w) n f = rw (f .2) (word-sound p c w b bs (f .0) (f .1) (λ m. lex-sound bs m (suc (suc p + length w))) (byteSort b) (sort-sound b))
+lex-sound (b ∷ bs) (in-quote p w) n f = rw (f .1) (quote-sound p w b bs (f .0) (λ m. lex-sound bs m (suc (suc p + length w))) (byteSort b) (sort-sound b))
 
 -- the answer between tokens is right
 pub right : (n : ℕ) (bs : List ℕ) → Right n bs (lex between n bs)

@@ -8,11 +8,11 @@ use lib.ListN.{length}
 use Rattle.octets.specs.Lists.{Every, every-none, every-more}
 use Rattle.token.specs.Texts.{Blank}
 use Rattle.token.specs.Tokens.{Word, Token, word, quoted, Mark, Letter, Inner, Stops, at-end, before, Placed, placed}
-use Rattle.token.specs.Lexer.{Sort, blank, quote, letter, mark, sort, Lexed, tokens, unclosed, Mode, between, in-word, in-quote, eat, emit, lex}
+use Rattle.token.specs.Lexer.{ByteSort, blank, quote, letter, mark, byteSort, Lexed, tokens, unclosed, Mode, between, in-word, in-quote, eat, emit, lex}
 use Rattle.token.proofs.ByteSorts.{OfSort, sort-sound, sort-complete}
 
 -- a byte of a sort
-pub lex-eat : (m : Mode) (n b : ℕ) (bs : List ℕ) (k : Sort) → OfSort b k → lex m n (b ∷ bs) ≡ emit (eat m n b k .0) (lex (eat m n b k .1) (suc n) bs)
+pub lex-eat : (m : Mode) (n b : ℕ) (bs : List ℕ) (k : ByteSort) → OfSort b k → lex m n (b ∷ bs) ≡ emit (eat m n b k .0) (lex (eat m n b k .1) (suc n) bs)
 unfolding lex
 lex-eat m n b bs k h = ap (λ x. emit (eat m n b x .0) (lex (eat m n b x .1) (suc n) bs)) (sort-complete b k h)
 
@@ -33,13 +33,13 @@ emit-more ts us (unclosed p) = refl
 -- a byte in quotes
 pub quote-step : (p n : ℕ) (v : Word) (b : ℕ) (bs : List ℕ) → Inner b → lex (in-quote p v) n (b ∷ bs) ≡ lex (in-quote p (v ++ (b ∷ []))) (suc n) bs
 unfolding lex eat
-quote-step p n v b bs i = by-sort (sort b) (sort-sound b)
+quote-step p n v b bs i = by-byteSort (byteSort b) (sort-sound b)
   where
-    by-sort : (k : Sort) → OfSort b k → emit (eat (in-quote p v) n b k .0) (lex (eat (in-quote p v) n b k .1) (suc n) bs) ≡ lex (in-quote p (v ++ (b ∷ []))) (suc n) bs
-    by-sort blank h = emit-none (lex (in-quote p (v ++ (b ∷ []))) (suc n) bs)
-    by-sort (mark t) h = emit-none (lex (in-quote p (v ++ (b ∷ []))) (suc n) bs)
-    by-sort quote h = absurd (i .no-quote h)
-    by-sort letter h = emit-none (lex (in-quote p (v ++ (b ∷ []))) (suc n) bs)
+    by-byteSort : (k : ByteSort) → OfSort b k → emit (eat (in-quote p v) n b k .0) (lex (eat (in-quote p v) n b k .1) (suc n) bs) ≡ lex (in-quote p (v ++ (b ∷ []))) (suc n) bs
+    by-byteSort blank h = emit-none (lex (in-quote p (v ++ (b ∷ []))) (suc n) bs)
+    by-byteSort (mark t) h = emit-none (lex (in-quote p (v ++ (b ∷ []))) (suc n) bs)
+    by-byteSort quote h = absurd (i .no-quote h)
+    by-byteSort letter h = emit-none (lex (in-quote p (v ++ (b ∷ []))) (suc n) bs)
 
 -- bytes in quotes
 quote-run : (p n : ℕ) (v : Word) {q : Word} (bs : List ℕ) → Every Inner q → lex (in-quote p v) n (q ++ bs) ≡ lex (in-quote p (v ++ q)) (n + length q) bs
@@ -58,14 +58,14 @@ word-run p c n v bs (every-more {a = b} {xs = w} i a) = lex-eat (in-word p c v) 
 pub word-stop : (p c n : ℕ) (w : Word) {bs : List ℕ} → Stops bs → lex (in-word p c w) n bs ≡ emit (placed p (word (c ∷ w)) ∷ []) (lex between n bs)
 unfolding lex eat
 word-stop p c n w at-end = unfold emit in refl
-word-stop p c n w (before {b} {bs} s) = by-sort (sort b) (sort-sound b)
+word-stop p c n w (before {b} {bs} s) = by-byteSort (byteSort b) (sort-sound b)
   where
-    by-sort : (k : Sort) → OfSort b k → emit (eat (in-word p c w) n b k .0) (lex (eat (in-word p c w) n b k .1) (suc n) bs)
+    by-byteSort : (k : ByteSort) → OfSort b k → emit (eat (in-word p c w) n b k .0) (lex (eat (in-word p c w) n b k .1) (suc n) bs)
         ≡ emit (placed p (word (c ∷ w)) ∷ []) (emit (eat between n b k .0) (lex (eat between n b k .1) (suc n) bs))
-    by-sort blank h = sym (emit-more (placed p (word (c ∷ w)) ∷ []) [] (lex between (suc n) bs))
-    by-sort (mark t) h = sym (emit-more (placed p (word (c ∷ w)) ∷ []) (placed n t ∷ []) (lex between (suc n) bs))
-    by-sort quote h = sym (emit-more (placed p (word (c ∷ w)) ∷ []) [] (lex (in-quote n []) (suc n) bs))
-    by-sort letter h = absurd (s h)
+    by-byteSort blank h = sym (emit-more (placed p (word (c ∷ w)) ∷ []) [] (lex between (suc n) bs))
+    by-byteSort (mark t) h = sym (emit-more (placed p (word (c ∷ w)) ∷ []) (placed n t ∷ []) (lex between (suc n) bs))
+    by-byteSort quote h = sym (emit-more (placed p (word (c ∷ w)) ∷ []) [] (lex (in-quote n []) (suc n) bs))
+    by-byteSort letter h = absurd (s h)
 
 -- ---- one token a step, as a lexer in code goes
 

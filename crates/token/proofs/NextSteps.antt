@@ -14,10 +14,10 @@ use borrow.Author.Tests.{ne-eqb, le-leb, lt-leb}
 use Rattle.octets.specs.Choice.{pick}
 use Rattle.token.specs.Texts.{Blank}
 use Rattle.token.specs.Tokens.{Token, open′, close, bang, word, quoted, Mark, opening, closing, banging, Letter, Stops, at-end, before, placed}
-use Rattle.token.specs.Lexer.{Sort, blank, quote, letter, mark, sort, tokens, unclosed, between, emit, lex}
-use Rattle.token.specs.Next.{lexFrom, isBlank, isLetter, isInner, run, runEnd, lexeme, quoteAt, startAt, nextAt, bytesOfKind, bytesIn, tokenIn}
-use Rattle.token.specs.declared.Kind.{Kind}
-use Rattle.token.specs.declared.Kind.the-variants.{End, Open, Close, Bang, Word, Quoted, Unclosed}
+use Rattle.token.specs.Lexer.{ByteSort, blank, quote, letter, mark, byteSort, tokens, unclosed, between, emit, lex}
+use Rattle.token.specs.Next.{lexFrom, isBlank, isLetter, isInner, run, runEnd, lexeme, quoteAt, startAt, nextAt, bytesOfSort, bytesIn, tokenIn}
+use Rattle.token.specs.declared.Sort.{Sort}
+use Rattle.token.specs.declared.Sort.the-variants.{End, Open, Close, Bang, Word, Quoted, Unclosed}
 use Rattle.token.specs.declared.Lexeme.{Lexeme}
 use Rattle.token.proofs.ByteSorts.{OfSort, sort-sound}
 use Rattle.token.proofs.ByteTests.{blank-sound, blank-not, letter-sound, letter-complete, letter-not, inner-sound, inner-not}
@@ -68,7 +68,7 @@ blanks-from text at = lex-blanks at (drop at text) ∙ ap (lex between (runEnd i
 
 module _ (text : List ℕ) (p : ℕ) (h : p < length text) where
   -- a mark
-  takes-mark : {b : ℕ} {t : Token} (k : Kind) → getD text p 0 ≡ b → Mark b t
+  takes-mark : {b : ℕ} {t : Token} (k : Sort) → getD text p 0 ≡ b → Mark b t
       → tokenIn text (lexeme k p (p + 1)) ≡ some t → length (bytesIn text (lexeme k p (p + 1))) ≡ 0 → Takes text p (lexeme k p (p + 1)) t
   takes-mark {b} {t} k e m is z = record {
     is = is;
@@ -82,7 +82,7 @@ module _ (text : List ℕ) (p : ℕ) (h : p < length text) where
   -- a word
   takes-word : Letter (getD text p 0)
       → Takes text p (lexeme Word p (runEnd isLetter text (p + 1))) (word (getD text p 0 ∷ take (run isLetter (drop (p + 1) text)) (drop (p + 1) text)))
-  unfolding bytesOfKind
+  unfolding bytesOfSort
   takes-word l =
       let b = getD text p 0 in
       let n = run isLetter (drop (p + 1) text) in
@@ -112,7 +112,7 @@ module _ (text : List ℕ) (p : ℕ) (h : p < length text) where
   -- a quoted token
   takes-quoted : getD text p 0 ≡ 39 → runEnd isInner text (p + 1) < length text
       → Takes text p (lexeme Quoted p (runEnd isInner text (p + 1) + 1)) (quoted (take (run isInner (drop (p + 1) text)) (drop (p + 1) text)))
-  unfolding bytesOfKind
+  unfolding bytesOfSort
   takes-quoted q i =
       let n = run isInner (drop (p + 1) text) in
       let w = take n (drop (p + 1) text) in
@@ -150,8 +150,8 @@ module _ (text : List ℕ) (p : ℕ) (h : p < length text) where
       go (no k) = rw (lt-leb _ _ (lt-of-not-le k)) (takes (takes-quoted q (lt-of-not-le k)))
 
   -- any byte but a blank
-  steps-byte : (b : ℕ) → getD text p 0 ≡ b → (s : Sort) → OfSort b s → (Blank b → ⊥) → Step text p (startAt text p)
-  unfolding startAt bytesOfKind
+  steps-byte : (b : ℕ) → getD text p 0 ≡ b → (s : ByteSort) → OfSort b s → (Blank b → ⊥) → Step text p (startAt text p)
+  unfolding startAt bytesOfSort
   steps-byte b e blank k n = absurd (n k)
   steps-byte b e (mark t) opening n = rw (lt-leb _ _ h, e) (takes (takes-mark Open e opening refl refl))
   steps-byte b e (mark t) closing n = rw (lt-leb _ _ h, e) (takes (takes-mark Close e closing refl refl))
@@ -176,7 +176,7 @@ steps-start text p n = go (decLe (length text) p)
   where
     go : Dec (length text ≤ p) → Step text p (startAt text p)
     go (yes k) = unfold startAt in rw (le-leb _ _ k) (at-last (lex-past text p k))
-    go (no k) = steps-byte text p (lt-of-not-le k) (getD text p 0) refl (sort (getD text p 0)) (sort-sound (getD text p 0)) (n (lt-of-not-le k))
+    go (no k) = steps-byte text p (lt-of-not-le k) (getD text p 0) refl (byteSort (getD text p 0)) (sort-sound (getD text p 0)) (n (lt-of-not-le k))
 
 -- behind bytes that hold no token
 step-behind : {text : List ℕ} {at p : ℕ} {l : Lexeme} → at ≤ p → lexFrom text at ≡ lexFrom text p → Step text p l → Step text at l

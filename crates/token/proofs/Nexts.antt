@@ -10,8 +10,8 @@ use lib.ListN.{length}
 use Rattle.token.specs.Tokens.{Token, Placed, placed, Lexes, Unclosed}
 use Rattle.token.specs.Lexer.{Lexed, tokens, unclosed, emit}
 use Rattle.token.specs.Next.{tokensOf, lexFrom, left, Closed, nextAt, bytesIn, tokenOf, tokenIn, unclosedIn, unclosedAt}
-use Rattle.token.specs.declared.Kind.{Kind}
-use Rattle.token.specs.declared.Kind.the-variants as kinds
+use Rattle.token.specs.declared.Sort.{Sort}
+use Rattle.token.specs.declared.Sort.the-variants as sorts
 use Rattle.token.specs.declared.Lexeme.{Lexeme}
 use Rattle.token.proofs.Lexing.{lex-complete, lex-sound, read-unclosed, lexed, unclosed-within}
 use Rattle.token.proofs.NextSteps.{Takes, Step, at-last, opens, takes, lex-past, next-step}
@@ -33,9 +33,9 @@ closed-start d = lexed-closed (omega arith) (lex-complete d)
 
 -- ---- the next lexeme
 
--- the token of a lexeme, by its kind
-pub kind-token : (text : List ℕ) (l : Lexeme) {k : Kind} → l .kind ≡ k → tokenIn text l ≡ tokenOf k (bytesIn text l)
-kind-token text l e = ap (λ k. tokenOf k (bytesIn text l)) e
+-- the token of a lexeme, by its sort
+pub sort-token : (text : List ℕ) (l : Lexeme) {k : Sort} → l .sort ≡ k → tokenIn text l ≡ tokenOf k (bytesIn text l)
+sort-token text l e = ap (λ k. tokenOf k (bytesIn text l)) e
 
 -- a token that is taken: it comes first of those that are left, and the rest is left behind it
 pub record Took (text : List ℕ) (at : ℕ) (l : Lexeme) (t : Token) : Type 0 where
@@ -46,27 +46,27 @@ pub record Took (text : List ℕ) (at : ℕ) (l : Lexeme) (t : Token) : Type 0 w
   pub within : l .end ≤ length text
   pub sized : length (bytesIn text l) + l .start ≤ l .end
 
--- no token is of these kinds
-none-taken : {text : List ℕ} {at : ℕ} {l : Lexeme} {t : Token} {k : Kind} → Takes text at l t → l .kind ≡ k → tokenOf k (bytesIn text l) ≡ none → ⊥
+-- no token is of these sorts
+none-taken : {text : List ℕ} {at : ℕ} {l : Lexeme} {t : Token} {k : Sort} → Takes text at l t → l .sort ≡ k → tokenOf k (bytesIn text l) ≡ none → ⊥
 none-taken {text} {at} {l} t e n =
-    let z : _≡_ {A = ℕ} 0 1 = cc (t .is, kind-token text l e) in
+    let z : _≡_ {A = ℕ} 0 1 = cc (t .is, sort-token text l e) in
     omega arith
 
 -- at the end no token is left
-pub next-end : {text : List ℕ} {at : ℕ} → Closed text at → nextAt text at .kind ≡ kinds.End → (left text at ≡ []) × (nextAt text at .start ≡ length text)
+pub next-end : {text : List ℕ} {at : ℕ} → Closed text at → nextAt text at .sort ≡ sorts.End → (left text at ≡ []) × (nextAt text at .start ≡ length text)
 unfolding tokensOf
 next-end {text} {at} c k = go (next-step text at) k
   where
-    go : {l : Lexeme} → Step text at l → l .kind ≡ kinds.End → (left text at ≡ []) × (l .start ≡ length text)
+    go : {l : Lexeme} → Step text at l → l .sort ≡ sorts.End → (left text at ≡ []) × (l .start ≡ length text)
     go (at-last e) k = (ap tokensOf e, refl)
     go (opens e) k = let z : _≡_ {A = ℕ} 0 1 = cc in absurd (omega arith)
     go (takes t) k = absurd (none-taken t k refl)
 
 -- no quote is met that isn't closed
-pub next-closed : {text : List ℕ} {at : ℕ} → Closed text at → nextAt text at .kind ≡ kinds.Unclosed → ⊥
+pub next-closed : {text : List ℕ} {at : ℕ} → Closed text at → nextAt text at .sort ≡ sorts.Unclosed → ⊥
 next-closed {text} {at} c k = go (next-step text at) k
   where
-    go : {l : Lexeme} → Step text at l → l .kind ≡ kinds.Unclosed → ⊥
+    go : {l : Lexeme} → Step text at l → l .sort ≡ sorts.Unclosed → ⊥
     go (at-last e) k = let z : _≡_ {A = ℕ} 0 1 = cc in omega arith
     go (opens e) k = let z : _≡_ {A = ℕ} 0 1 = cc (closed-lexed c) in omega arith
     go (takes t) k = none-taken t k refl
@@ -151,10 +151,10 @@ pub record Searched (text : List ℕ) (at : ℕ) (l : Lexeme) : Type 0 where
   pub within : l .end ≤ length text
 
 -- behind any but an unclosed quote
-pub search-on : (text : List ℕ) (at : ℕ) → at < length text → (nextAt text at .kind ≡ kinds.Unclosed → ⊥) → Searched text at (nextAt text at)
+pub search-on : (text : List ℕ) (at : ℕ) → at < length text → (nextAt text at .sort ≡ sorts.Unclosed → ⊥) → Searched text at (nextAt text at)
 search-on text at h n = go (next-step text at) n
   where
-    go : {l : Lexeme} → Step text at l → (l .kind ≡ kinds.Unclosed → ⊥) → Searched text at l
+    go : {l : Lexeme} → Step text at l → (l .sort ≡ sorts.Unclosed → ⊥) → Searched text at l
     go (at-last e) n = record { same = ap (λ l. unclosedIn l (length text)) (lex-past text (length text) (omega arith) ∙ sym e); further = h; within = omega arith }
     go (opens e) n = absurd (n refl)
     go (takes {l} x) n = record {
@@ -164,11 +164,11 @@ search-on text at h n = go (next-step text at) n
     }
 
 -- an unclosed quote is what is searched for
-pub search-found : (text : List ℕ) (at : ℕ) → nextAt text at .kind ≡ kinds.Unclosed → nextAt text at .start ≡ unclosedIn (lexFrom text at) (length text)
+pub search-found : (text : List ℕ) (at : ℕ) → nextAt text at .sort ≡ sorts.Unclosed → nextAt text at .start ≡ unclosedIn (lexFrom text at) (length text)
 unfolding unclosedIn
 search-found text at k = go (next-step text at) k
   where
-    go : {l : Lexeme} → Step text at l → l .kind ≡ kinds.Unclosed → l .start ≡ unclosedIn (lexFrom text at) (length text)
+    go : {l : Lexeme} → Step text at l → l .sort ≡ sorts.Unclosed → l .start ≡ unclosedIn (lexFrom text at) (length text)
     go (at-last e) k = let z : _≡_ {A = ℕ} 0 1 = cc in absurd (omega arith)
     go (opens e) k = sym (ap (λ l. unclosedIn l (length text)) e)
     go (takes t) k = absurd (none-taken t k refl)

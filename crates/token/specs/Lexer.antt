@@ -8,13 +8,13 @@ use Rattle.token.specs.Tokens.{Word, Token, open′, close, bang, word, 
 -- ---- the tokens of bytes as a function: `unclosed` and `compile` are equal to it; the code goes by places (Next)
 
 -- the sorts of bytes outside quotes
-pub data Sort : Type 0 where
-  blank quote letter : Sort
-  mark : Token → Sort
+pub data ByteSort : Type 0 where
+  blank quote letter : ByteSort
+  mark : Token → ByteSort
 
 -- what a byte is outside quotes
-unfoldable pub sort : ℕ → Sort
-sort b =
+unfoldable pub byteSort : ℕ → ByteSort
+byteSort b =
     pick (eqb b 32) blank (pick (eqb b 9) blank (pick (eqb b 10) blank
     (pick (eqb b 40) (mark open′) (pick (eqb b 41) (mark close) (pick (eqb b 33) (mark bang) (pick (eqb b 39) quote letter))))))
 
@@ -30,7 +30,7 @@ pub data Mode : Type 0 where
   in-quote : ℕ → Word → Mode
 
 -- a byte b of sort k at n: the tokens that it ends or is, and the mode after it
-unfoldable pub eat : Mode → ℕ → ℕ → Sort → List Placed × Mode
+unfoldable pub eat : Mode → ℕ → ℕ → ByteSort → List Placed × Mode
 eat between n b blank = ([], between)
 eat between n b (mark t) = (placed n t ∷ [], between)
 eat between n b quote = ([], in-quote n [])
@@ -55,7 +55,7 @@ unfolding eat emit
 lex between n [] = tokens []
 lex (in-word p c w) n [] = tokens (placed p (word (c ∷ w)) ∷ [])
 lex (in-quote p q) n [] = unclosed p
-lex m n (b ∷ bs) = emit (eat m n b (sort b) .0) (lex (eat m n b (sort b) .1) (suc n) bs)
+lex m n (b ∷ bs) = emit (eat m n b (byteSort b) .0) (lex (eat m n b (byteSort b) .1) (suc n) bs)
 
 -- the answer for a whole text
 abbrev pub read : List ℕ → Lexed

@@ -9,8 +9,8 @@ use Rattle.octets.specs.Choice.{pick}
 use Rattle.token.specs.Texts.{allowed}
 use Rattle.token.specs.Tokens.{Token, open′, close, bang, word, quoted, Placed, Lexes}
 use Rattle.token.specs.Lexer.{Lexed, tokens, unclosed, between, lex, read}
-use Rattle.token.specs.declared.Kind.{Kind}
-use Rattle.token.specs.declared.Kind.the-variants.{End, Open, Close, Bang, Word, Quoted, Unclosed}
+use Rattle.token.specs.declared.Sort.{Sort}
+use Rattle.token.specs.declared.Sort.the-variants.{End, Open, Close, Bang, Word, Quoted, Unclosed}
 use Rattle.token.specs.declared.Lexeme.{Lexeme}
 use Rattle.token.specs.declared.Run.{Run}
 use Rattle.token.specs.declared.Run.the-variants.{Blanks, Letters, Inner, Allowed}
@@ -63,9 +63,9 @@ run test (b ∷ bs) = pick (test b) (suc (run test bs)) 0
 abbrev pub runEnd : (ℕ → Bool) → List ℕ → ℕ → ℕ
 runEnd test text at = at + run test (drop at text)
 
--- a kind, the place of its first byte and the place behind its last
-abbrev pub lexeme : Kind → ℕ → ℕ → Lexeme
-lexeme k s e = record { kind = k; start = s; end = e }
+-- a sort, the place of its first byte and the place behind its last
+abbrev pub lexeme : Sort → ℕ → ℕ → Lexeme
+lexeme k s e = record { sort = k; start = s; end = e }
 
 -- from a quote up to the one that closes it, or to the end where none does
 unfoldable pub quoteAt : List ℕ → ℕ → Lexeme
@@ -91,22 +91,22 @@ nextAt text at = startAt text (runEnd isBlank text at)
 abbrev pub part : List ℕ → ℕ → ℕ → List ℕ
 part text start end = take (end - start) (drop start text)
 
--- the bytes of a token by its kind, from a place up to another
-unfoldable pub bytesOfKind : List ℕ → Kind → ℕ → ℕ → List ℕ
-bytesOfKind text End s e = []
-bytesOfKind text Open s e = []
-bytesOfKind text Close s e = []
-bytesOfKind text Bang s e = []
-bytesOfKind text Word s e = part text s e
-bytesOfKind text Quoted s e = part text (s + 1) (e - 1)
-bytesOfKind text Unclosed s e = []
+-- the bytes of a token by its sort, from a place up to another
+unfoldable pub bytesOfSort : List ℕ → Sort → ℕ → ℕ → List ℕ
+bytesOfSort text End s e = []
+bytesOfSort text Open s e = []
+bytesOfSort text Close s e = []
+bytesOfSort text Bang s e = []
+bytesOfSort text Word s e = part text s e
+bytesOfSort text Quoted s e = part text (s + 1) (e - 1)
+bytesOfSort text Unclosed s e = []
 
 -- the bytes of a word, and those between the quotes of a quoted token
 abbrev pub bytesIn : List ℕ → Lexeme → List ℕ
-bytesIn text l = bytesOfKind text (l .kind) (l .start) (l .end)
+bytesIn text l = bytesOfSort text (l .sort) (l .start) (l .end)
 
--- a token of a kind, with its bytes
-abbrev pub tokenOf : Kind → List ℕ → Option Token
+-- a token of a sort, with its bytes
+abbrev pub tokenOf : Sort → List ℕ → Option Token
 tokenOf End w = none
 tokenOf Open w = some open′
 tokenOf Close w = some close
@@ -117,7 +117,7 @@ tokenOf Unclosed w = none
 
 -- the token that a lexeme is
 abbrev pub tokenIn : List ℕ → Lexeme → Option Token
-tokenIn text l = tokenOf (l .kind) (bytesIn text l)
+tokenIn text l = tokenOf (l .sort) (bytesIn text l)
 
 -- the place of the first forbidden byte, the length where there is none
 abbrev pub allowedFront : List ℕ → ℕ

@@ -5,8 +5,15 @@ ghost use lib.ListN.{length};
 ghost use Rattle.token.specs.Texts.{allowed};
 ghost use Rattle.token.specs.Next.{isBlank, isLetter, isIn, runEnd, lexeme, quoteAt, startAt, nextAt, part, bytesIn, allowedFront, unclosedAt};
 
+// The most bytes of a text.
+pub const TEXT_LIMIT: usize = 4096;
+// The printed bytes that a text may have.
+const FIRST_PRINTED: u8 = 0x20;
+
+const LAST_PRINTED: u8 = 0x7E;
+
 // What stands at a place: nothing up to the end, a token, or a quote that isn't closed.
-pub enum Kind {
+pub enum Sort {
     End,
     Open,
     Close,
@@ -16,9 +23,9 @@ pub enum Kind {
     Unclosed,
 }
 
-// A kind, the place of its first byte and the place behind its last.
+// A sort, the place of its first byte and the place behind its last.
 pub struct Lexeme {
-    pub kind: Kind,
+    pub sort: Sort,
     pub start: usize,
     pub end: usize,
 }
@@ -62,19 +69,20 @@ fn letter(b: u8) -> bool
     !is_blank(b)
 }
 
-fn permitted(b: u8) -> bool
-    ensures { λ r. ⌜ r ≡ allowed b ⌝ }
+// Whether a text may have a byte.
+fn permitted(byte: u8) -> bool
+    ensures { λ r. ⌜ r ≡ allowed byte ⌝ }
 {
-    if b == 0x09 {
+    if byte == b'\t' {
         return true;
     }
-    if b == 0x0A {
+    if byte == b'\n' {
         return true;
     }
-    if b < 0x20 {
+    if byte < FIRST_PRINTED {
         return false;
     }
-    b <= 0x7E
+    byte <= LAST_PRINTED
 }
 
 // Whether a run goes on with a byte.
@@ -110,10 +118,10 @@ pub fn blanks_end(text: &[u8], at: usize) -> usize
     run_end(text, at, Run::Blanks)
 }
 
-fn span(kind: Kind, start: usize, end: usize) -> Lexeme
-    ensures { λ r. ⌜ r ≡ lexeme kind start end ⌝ }
+fn span(sort: Sort, start: usize, end: usize) -> Lexeme
+    ensures { λ r. ⌜ r ≡ lexeme sort start end ⌝ }
 {
-    Lexeme { kind, start, end }
+    Lexeme { sort, start, end }
 }
 
 // From a quote up to the one that closes it.
@@ -124,9 +132,9 @@ fn quote(text: &[u8], start: usize) -> Lexeme
     let inner = start + 1;
     let end = run_end(text, inner, Run::Inner);
     if text.len() <= end {
-        return span(Kind::Unclosed, start, text.len());
+        return span(Sort::Unclosed, start, text.len());
     }
-    span(Kind::Quoted, start, end + 1)
+    span(Sort::Quoted, start, end + 1)
 }
 
 // What begins at a place where no blank stands.
@@ -134,21 +142,21 @@ fn begins(text: &[u8], start: usize) -> Lexeme
     ensures { λ r. ⌜ r ≡ startAt (now (text .entry)) start ⌝ }
 {
     if text.len() <= start {
-        return span(Kind::End, text.len(), text.len());
+        return span(Sort::End, text.len(), text.len());
     }
     let b = text[start];
     if b == b'(' {
-        return span(Kind::Open, start, start + 1);
+        return span(Sort::Open, start, start + 1);
     }
     if b == b')' {
-        return span(Kind::Close, start, start + 1);
+        return span(Sort::Close, start, start + 1);
     }
     if b == b'!' {
-        return span(Kind::Bang, start, start + 1);
+        return span(Sort::Bang, start, start + 1);
     }
     if b != b'\'' {
         let end = run_end(text, start, Run::Letters);
-        return span(Kind::Word, start, end);
+        return span(Sort::Word, start, end);
     }
     quote(text, start)
 }
@@ -185,15 +193,15 @@ fn inside(text: &[u8], start: usize, end: usize) -> &[u8]
 pub fn bytes(text: &[u8], lexeme: Lexeme) -> &[u8]
     ensures { λ r. ⌜ now r ≡ bytesIn (now (text .entry)) lexeme ⌝ }
 {
-    let kind = lexeme.kind;
-    match kind {
-        Kind::End => &text[..0],
-        Kind::Open => &text[..0],
-        Kind::Close => &text[..0],
-        Kind::Bang => &text[..0],
-        Kind::Word => between(text, lexeme.start, lexeme.end),
-        Kind::Quoted => inside(text, lexeme.start, lexeme.end),
-        Kind::Unclosed => &text[..0],
+    let sort = lexeme.sort;
+    match sort {
+        Sort::End => &text[..0],
+        Sort::Open => &text[..0],
+        Sort::Close => &text[..0],
+        Sort::Bang => &text[..0],
+        Sort::Word => between(text, lexeme.start, lexeme.end),
+        Sort::Quoted => inside(text, lexeme.start, lexeme.end),
+        Sort::Unclosed => &text[..0],
     }
 }
 
@@ -211,8 +219,8 @@ pub fn unclosed(text: &[u8]) -> usize
     let mut at = 0;
     while at < text.len() {
         let found = next(text, at);
-        let kind = found.kind;
-        if let Kind::Unclosed = kind {
+        let sort = found.sort;
+        if let Sort::Unclosed = sort {
             return found.start;
         }
         at = found.end;

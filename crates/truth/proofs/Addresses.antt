@@ -1,7 +1,8 @@
--- Addresses of 32 bits: the prefixes of a message that has a record, and the operands of tests that some text could give. Assumes nothing.
+-- Addresses of as many bits as their network's: the prefixes of a message that has a record, and the operands of tests that some text could give.
+-- Assumes nothing.
 use Prim.Native.Nat.{ℕ, _^_, _<_}
 use native.Mathlib.Omega.{arith}
-use mathlib.Core.Path.{ap}
+use mathlib.Core.Path.{_≡_, ap}
 use mathlib.Core.List.{List}
 use Rattle.octets.specs.Numbers.{numberAt}
 use Rattle.octets.specs.Lists.{Every, every-none}
@@ -9,20 +10,21 @@ use Rattle.octets.specs.Rows.{Joined}
 use Rattle.octets.proofs.Numbers.{number-lt}
 use Rattle.octets.proofs.Every.{every-append}
 use Rattle.octets.proofs.Items.{joined-every}
-use Rattle.network.specs.declared.Network.{Network}
+use Rattle.network.specs.Networks.{addressBits, Network}
 use Rattle.network.specs.Wire.{PrefixBytes}
 use Rattle.network.proofs.Clearing.{cleared-le}
 use Rattle.message.specs.Message.{Message}
-use Rattle.message.specs.Represents.{addressBits, BodyBytes, is-update, is-other, Represents}
-use Rattle.program.specs.Readings.{Side, eitherSide, announced, withdrawn, Test, typeIs, hasAttribute, pathMatches, peerIs, hasLoop, hasBogon, networkIs, timeIs, Reading, test, neg, joint}
-use Rattle.program.specs.Records.{Possible}
+use Rattle.message.specs.Represents.{BodyBytes, is-update, is-other, Represents}
+use Rattle.program.specs.Readings.{Side, eitherSide, announced, withdrawn, Reading, test, neg, joint}
+use Rattle.program.specs.Readings.{Test, typeIs, hasAttribute, pathMatches, peerIs, hasLoop, hasBogon, networkIs, timeIs}
+use Rattle.program.specs.Records.{NetworkPossible, PossibleHead}
 use Rattle.program.specs.Compiling.{headOf}
 use Rattle.program.proofs.ReadingValid.{PossibleTest, PossibleReading}
 use Rattle.truth.specs.Means.{prefixesOn}
 
--- a network's address has 32 bits
+-- an address has its network's bits
 pub record Addressed (n : Network) : Type 0 where
-  pub below : n .address < 2 ^ addressBits
+  pub below : n .address < 2 ^ n .bits
 
 -- so has every prefix of a message
 pub record PrefixesAddressed (m : Message) : Type 0 where
@@ -59,7 +61,8 @@ prefix-addressed : {n : Network} {bytes : List ℕ} → PrefixBytes addressBits 
 prefix-addressed {n} p =
     let a = numberAt (p .address) 0 4 in
     let h : a < 256 ^ 4 = number-lt (p .address) 0 4 (p .few .octets .below) in
-    record { below = omega (arith, h, ap (λ (x : Network). x .address) (p .network), cleared-le addressBits (n .len) a) }
+    let bits : n .bits ≡ addressBits = ap (λ (x : Network). x .bits) (p .network) in
+    record { below = rw bits (omega (arith, h, ap (λ (x : Network). x .address) (p .network), cleared-le addressBits (n .len) a)) }
 
 -- prefixes one after another
 prefixes-addressed : {ns : List Network} {bytes : List ℕ} → Joined (PrefixBytes addressBits) ns bytes → Every Addressed ns
@@ -77,6 +80,11 @@ represented-addressed r = body-addressed (r .rest-is .frame-is .body-is)
 
 -- ---- tests that some text could give
 
+network-addressed : {n : Network} → NetworkPossible n → Addressed n
+network-addressed {n} p =
+    let bits : n .bits ≡ addressBits = ap (λ (x : Network). x .bits) (p .clear) in
+    record { below = rw bits (p .word .below) }
+
 -- such a test
 pub possible-addressed : (t : Test) → PossibleTest t → OperandAddressed t
 possible-addressed (typeIs c) p = tt
@@ -85,11 +93,11 @@ possible-addressed (pathMatches q) p = tt
 possible-addressed (peerIs q) p = tt
 possible-addressed hasLoop p = tt
 possible-addressed hasBogon p = tt
-possible-addressed (networkIs r n s) p = record { below = p .word .below }
+possible-addressed (networkIs r n s) p = network-addressed p
 possible-addressed (timeIs c s m) p = tt
 
 -- a test whose record some text could give
-pub head-addressed : (t : Test) → Possible (headOf t) → OperandAddressed t
+pub head-addressed : (t : Test) → PossibleHead (headOf t) → OperandAddressed t
 unfolding headOf
 head-addressed (typeIs c) p = tt
 head-addressed (hasAttribute c) p = tt
@@ -97,7 +105,7 @@ head-addressed (pathMatches q) p = tt
 head-addressed (peerIs q) p = tt
 head-addressed hasLoop p = tt
 head-addressed hasBogon p = tt
-head-addressed (networkIs r n s) p = record { below = p .word .below }
+head-addressed (networkIs r n s) p = network-addressed p
 head-addressed (timeIs c s m) p = tt
 
 -- a reading of such tests

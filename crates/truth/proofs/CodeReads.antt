@@ -4,9 +4,10 @@ use native.Mathlib.Omega.{arith}
 use mathlib.Core.Path.{_≡_, refl}
 use mathlib.Core.Bool.{false}
 use mathlib.Core.List.{List, [], _∷_, map}
+use lib.Dec.{eqb}
 use borrow.Author.Tests.{ne-eqb}
 use Rattle.octets.specs.Numbers.{Octets}
-use Rattle.octets.specs.Lists.{Every, every-none, every-more}
+use Rattle.octets.specs.Lists.{Every, every-none, every-more, somePasses}
 use Rattle.octets.proofs.Items.{items-every}
 use Rattle.attributes.specs.Attribute.{codeOf}
 use Rattle.attributes.specs.Wire.{Raw, attributeSize, rawOf, rawsOf, codes}
@@ -19,13 +20,13 @@ said-code : (w : ℕ) (r : Raw) → codeOf (said w r) ≡ r .code
 unfolding said codeOf
 said-code w = by-code (λ body. refl) (λ body. refl) (λ body. refl) (λ body. refl) (λ r u. rw (said-other w r u) refl)
 
-raws-coded : (w code : ℕ) (raws : List Raw) → elem code (map codeOf (map (said w) raws)) ≡ elem code (codes raws)
-unfolding elem
+raws-coded : (w code : ℕ) (raws : List Raw) → somePasses (λ a. eqb (codeOf a) code) (map (said w) raws) ≡ elem code (codes raws)
+unfolding elem somePasses
 raws-coded w code [] = refl
 raws-coded w code (r ∷ raws) = rw (said-code w r, raws-coded w code raws) refl
 
 -- the attributes of a section have its codes
-pub some-coded : (w code : ℕ) (l : List ℕ) → elem code (map codeOf (attributesOf w l)) ≡ elem code (codes (rawsOf l))
+pub some-coded : (w code : ℕ) (l : List ℕ) → somePasses (λ a. eqb (codeOf a) code) (attributesOf w l) ≡ elem code (codes (rawsOf l))
 some-coded w code l = raws-coded w code (rawsOf l)
 
 -- a code is one byte

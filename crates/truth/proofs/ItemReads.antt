@@ -1,132 +1,166 @@
 -- Laws of the items at the front of a program's records. Assumes nothing.
-use Prim.Native.Nat.{ℕ, zero, suc, _+_, _-_, _*_, _≤_, _<_}
-use native.Mathlib.Nat.{lt-of-not-le, sub-zero}
+use Prim.Native.Nat.{ℕ, zero, suc, _≤_, _<_}
+use native.Mathlib.Nat.{lt-of-not-le}
 use native.Mathlib.Decide.{decLe, ℕ-discrete}
 use native.Mathlib.Omega.{arith}
-use mathlib.Core.Path.{_≡_, refl, sym, ap, _∙_}
+use mathlib.Core.Path.{_≡_, refl, sym, _∙_}
+use mathlib.Core.Bool.{Bool, true, false}
+use mathlib.Core.Option.{Option, none, some}
 use mathlib.Core.List.{List, [], _∷_}
-use lib.ListN.{length, drop, length-drop}
-use lib.Seq.{drop-drop}
+use lib.ListN.{length, take, drop}
+use lib.Dec.{eqb, leb, ltb, eqb·zero-suc, eqb·suc-suc}
+use borrow.Author.Tests.{lt-ltb, le-ltb, lt-leb, ne-eqb, eqb-true, leb-true}
+use Rattle.octets.specs.Choice.{both, onward}
+use Rattle.octets.proofs.Choices.{never, each, alike}
+use Rattle.octets.proofs.Ranges.{within}
 use Rattle.aspath.specs.declared.Item.{Item}
 use Rattle.program.specs.declared.Fields.{Fields}
-use Rattle.program.specs.Records.{Record}
-use Rattle.program.specs.Layout.{recordSize, fieldsIn, recordIs}
-use Rattle.program.specs.Machine.{recordsIn, itemsAfter}
-use Rattle.program.proofs.ValidRecords.{records-none, records-next}
-use Rattle.truth.specs.Matching.{itemOf, itemsIn}
+use Rattle.program.specs.Records.{Head, Record, head, item, flip, pass, peer, time}
+use Rattle.program.specs.Kinds.{itemKind}
+use Rattle.program.specs.Layout.{recordSize, relationIs, sideIs, comparisonIs, itemIs, peerIs, pathIs, operandOf, networkSaid}
+use Rattle.program.specs.Layout.{fieldsIn, recordIs, decode, recordsUpTo, recordsIn}
+use Rattle.program.specs.Checks.{isItem, itemsStand}
+use Rattle.program.proofs.LayoutLaws.{records-none, records-next}
+use Rattle.truth.specs.Means.{ifAny}
+use Rattle.truth.specs.Records.{itemsOf}
+use Rattle.truth.specs.Matching.{given, itemsIn}
 use Rattle.truth.proofs.KindReads.{by-kind}
 
--- ---- at the front
+-- ---- one record
 
-none-after : (n : ℕ) → itemsAfter n [] ≡ []
-unfolding itemsAfter
-none-after zero = refl
-none-after (suc n) = refl
+-- fields say an item
+abbrev saysItem : Option Record → Bool
+saysItem (some (item i)) = true
+saysItem (some (head h)) = false
+saysItem (some flip) = false
+saysItem (some (pass o count)) = false
+saysItem none = false
 
--- fewer bytes than a record's hold none
-items-cut : (n : ℕ) (l : List ℕ) → length l < recordSize → itemsIn n l ≡ []
-items-cut n l h = ap (itemsAfter n) (records-none l h) ∙ none-after n
-
-other-after : (f : Fields) → (f .kind ≡ 4 → ⊥) → (n : ℕ) (rs : List Record) → itemsAfter n (recordIs f ∷ rs) ≡ []
-unfolding itemsAfter
-other-after f h zero rs = refl
-other-after f h (suc n) rs =
-    by-kind (λ r. itemsAfter (suc n) (r ∷ rs) ≡ []) f (λ e. refl) (λ e. refl) (λ e. refl) (λ e. absurd (h e)) (λ e. refl) (λ e. refl) (λ e. refl) (λ e. refl) (λ e. refl) (λ e. refl) (λ e. refl) refl
-
--- a record of another kind ends them
-items-other : (n : ℕ) (l : List ℕ) → recordSize ≤ length l → (fieldsIn l .kind ≡ 4 → ⊥) → itemsIn n l ≡ []
-items-other n l h k = ap (itemsAfter n) (records-next l h) ∙ other-after (fieldsIn l) k n (recordsIn (drop recordSize l))
-
-item-after : (f : Fields) → f .kind ≡ 4 → (n : ℕ) (rs : List Record) → itemsAfter (suc n) (recordIs f ∷ rs) ≡ itemOf f ∷ itemsAfter n rs
-unfolding itemsAfter recordIs
-item-after f e n rs = rw e refl
-
--- an item is the first of them
-items-next : (n : ℕ) (l : List ℕ) → recordSize ≤ length l → fieldsIn l .kind ≡ 4
-    → itemsIn (suc n) l ≡ itemOf (fieldsIn l) ∷ itemsIn n (drop recordSize l)
-items-next n l h k = ap (itemsAfter (suc n)) (records-next l h) ∙ item-after (fieldsIn l) k n (recordsIn (drop recordSize l))
-
-none-asked : (l : List ℕ) → itemsIn 0 l ≡ []
-unfolding itemsAfter
-none-asked l = refl
-
--- asking for as many as there are gives them all
-items-settled : (n : ℕ) (l : List ℕ) → itemsIn (length (itemsIn n l)) l ≡ itemsIn n l
-items-settled zero l = ap (λ (is : List Item). itemsIn (length is) l) (none-asked l)
-items-settled (suc n) l = go (decLe recordSize (length l)) (ℕ-discrete (fieldsIn l .kind) 4) (items-settled n (drop recordSize l))
+item-variant : (v a : ℕ) → leb v 2 ≡ saysItem (onward (itemIs v a) (λ i. some (item i)))
+item-variant v a = go (decLe v 2)
   where
-    empty : itemsIn (suc n) l ≡ [] → itemsIn (length (itemsIn (suc n) l)) l ≡ itemsIn (suc n) l
-    empty e = ap (λ (is : List Item). itemsIn (length is) l) e ∙ none-asked l ∙ sym e
+    go : Dec (v ≤ 2) → leb v 2 ≡ saysItem (onward (itemIs v a) (λ i. some (item i)))
+    go (yes h) = within 2 (λ n. leb n 2 ≡ saysItem (onward (itemIs n a) (λ i. some (item i)))) v h refl refl refl
+    go (no n) =
+        let h : 2 < v = lt-of-not-le n in
+        simp (lt-leb v 2 h, ne-eqb v 0 (λ e. omega arith), ne-eqb v 1 (λ e. omega arith), ne-eqb v 2 (λ e. omega arith))
 
-    go : Dec (recordSize ≤ length l) → Dec (fieldsIn l .kind ≡ 4)
-        → itemsIn (length (itemsIn n (drop recordSize l))) (drop recordSize l) ≡ itemsIn n (drop recordSize l)
-        → itemsIn (length (itemsIn (suc n) l)) l ≡ itemsIn (suc n) l
-    go (no h) k ih = empty (items-cut (suc n) l (lt-of-not-le h))
-    go (yes h) (no k) ih = empty (items-other (suc n) l h k)
-    go (yes h) (yes k) ih =
-        ap (λ (is : List Item). itemsIn (length is) l) (items-next n l h k)
-        ∙ items-next (length (itemsIn n (drop recordSize l))) l h k
-        ∙ ap (λ (is : List Item). itemOf (fieldsIn l) ∷ is) ih
-        ∙ sym (items-next n l h k)
+head-no-item : {A : Type 0} (o : Option A) (h : A → Head) → saysItem (onward o (λ a. some (head (h a)))) ≡ false
+head-no-item none h = refl
+head-no-item (some a) h = refl
 
--- where n is how many there are, asking for n gives them all, n
-module _ (count : ℕ) (l : List ℕ) {n : ℕ} (e : n ≡ length (itemsIn count l)) where
-  pub counted-same : itemsIn n l ≡ itemsIn count l
-  counted-same = ap (λ (k : ℕ). itemsIn k l) e ∙ items-settled count l
+-- where the code finds an item
+item-said : (f : Fields) → isItem f ≡ saysItem (recordIs f)
+item-said f = go (ℕ-discrete (f .kind) itemKind)
+  where
+    go : Dec (f .kind ≡ itemKind) → isItem f ≡ saysItem (recordIs f)
+    go (yes k) = unfold recordIs in rw k (item-variant (f .variant) (f .a))
+    go (no n) =
+        rw (ne-eqb _ _ n)
+        (sym (by-kind (λ o. saysItem o ≡ false) f
+        (λ k. refl) (λ k. refl) (λ k. head-no-item (pathIs (f .variant) (f .count)) (λ h. h)) (λ k. absurd (n k))
+        (λ k. head-no-item (peerIs (f .variant) (f .a) (f .b)) peer) (λ k. refl) (λ k. refl)
+        (λ k. head-no-item (networkSaid (relationIs (f .variant)) (operandOf f) (sideIs (f .b))) (λ h. h))
+        (λ k. head-no-item (comparisonIs (f .variant)) (λ c. time c (f .a) (f .b))) refl refl refl refl))
 
-  pub counted-all : length (itemsIn n l) ≡ n
-  counted-all = ap length counted-same ∙ sym e
+-- what an item's fields are
+pub record ItemFields (f : Fields) : Type 0 where
+  pub kind : f .kind ≡ itemKind
+  pub few : f .variant ≤ 2
 
--- ---- from the nth record on
+pub item-fields : (f : Fields) → isItem f ≡ true → ItemFields f
+item-fields f e = let x = each (eqb (f .kind) itemKind) (leb (f .variant) 2) e in record { kind = eqb-true _ _ (x .0); few = leb-true _ _ (x .1) }
 
-module _ (s : List ℕ) (count : ℕ) where
-  -- the items left, where count were asked for
-  abbrev pub left : ℕ → List Item
-  left n = itemsIn (count - n) (drop (recordSize * n) s)
+-- they say the item that their variant says
+pub item-decoded : (f : Fields) {i : Item} → isItem f ≡ true → itemIs (f .variant) (f .a) ≡ some i → recordIs f ≡ some (item i)
+unfolding recordIs
+item-decoded f s e = rw (item-fields f s .kind, e) refl
 
-  -- from the first on, all
-  pub left-all : left 0 ≡ itemsIn count s
-  left-all = ap (λ (n : ℕ). itemsIn n s) (sub-zero count)
+-- bytes are one at most
+pub one-item : {i j : Item} → some (item i) ≡ some (item j) → i ≡ j
+one-item e = cc
 
-  module _ (n : ℕ) where
-    -- all that were asked for have come
-    pub left-none : count ≤ n → left n ≡ []
-    left-none h =
-        let e : count - n ≡ 0 = omega arith in
-        rw e (none-asked (drop (recordSize * n) s))
+-- one is there
+item-there : (o : Option Record) → saysItem o ≡ true → (i : Item) × (o ≡ some (item i))
+item-there (some (item i)) e = (i, refl)
+item-there (some (head h)) e = never e
+item-there (some flip) e = never e
+item-there (some (pass o count)) e = never e
+item-there none e = never e
 
-    -- the bytes are at their end
-    pub left-cut : length s < recordSize * n + recordSize → left n ≡ []
-    left-cut h = items-cut (count - n) (drop (recordSize * n) s) (simp length-drop (omega arith))
+-- ---- the items of records
 
-    -- a record of another kind follows
-    pub left-other : recordSize * n + recordSize ≤ length s → (fieldsIn (drop (recordSize * n) s) .kind ≡ 4 → ⊥) → left n ≡ []
-    left-other h k = items-other (count - n) (drop (recordSize * n) s) (simp length-drop (omega arith)) k
+-- bytes that are no record hold none
+records-stop : (f : ℕ) (l : List ℕ) → decode l ≡ none → recordsUpTo f l ≡ []
+unfolding recordsUpTo
+records-stop zero l e = refl
+records-stop (suc f) l e = rw e (alike (ltb (length l) recordSize) refl refl)
 
-    -- an item follows
-    pub left-next : n < count → recordSize * n + recordSize ≤ length s → fieldsIn (drop (recordSize * n) s) .kind ≡ 4
-        → left n ≡ itemOf (fieldsIn (drop (recordSize * n) s)) ∷ left (n + 1)
-    left-next m h k =
-        let d : count - n ≡ suc (count - (n + 1)) = omega arith in
-        let e : recordSize * n + recordSize ≡ recordSize * (n + 1) = omega arith in
-        ap (λ (j : ℕ). itemsIn j (drop (recordSize * n) s)) d
-        ∙ items-next (count - (n + 1)) (drop (recordSize * n) s) (simp length-drop (omega arith)) k
-        ∙ ap (λ (l : List ℕ). itemOf (fieldsIn (drop (recordSize * n) s)) ∷ itemsIn (count - (n + 1)) l)
-        (drop-drop recordSize (recordSize * n) s ∙ ap (λ (j : ℕ). drop j s) e)
+-- so many items stand at the front where the records there are so many items
+stand-is : (n : ℕ) (l : List ℕ) → itemsStand n l ≡ ifAny (itemsOf (take n (recordsIn l))) (λ items. eqb (length items) n)
+unfolding itemsStand itemsOf
+stand-is zero l = refl
+stand-is (suc n) l = go (decLe recordSize (length l)) (decode l) refl (stand-is n (drop recordSize l))
+  where
+    counted : (i : Item) (o : Option (List Item)) → ifAny o (λ items. eqb (length items) n) ≡ ifAny (onward o (λ is. some (i ∷ is))) (λ items. eqb (length items) (suc n))
+    counted i none = refl
+    counted i (some is) = sym (eqb·suc-suc (length is) n)
 
-    -- the item that follows, and those after it
-    pub record Follows : Type 0 where
-      pub fits : recordSize * n + recordSize ≤ length s
-      pub next : left n ≡ itemOf (fieldsIn (drop (recordSize * n) s)) ∷ left (n + 1)
+    go : Dec (recordSize ≤ length l) → (o : Option Record) → decode l ≡ o
+        → itemsStand n (drop recordSize l) ≡ ifAny (itemsOf (take n (recordsIn (drop recordSize l)))) (λ items. eqb (length items) n)
+        → itemsStand (suc n) l ≡ ifAny (itemsOf (take (suc n) (recordsIn l))) (λ items. eqb (length items) (suc n))
+    go (no h) o e ih = rw (lt-ltb _ _ (lt-of-not-le h), records-none l (lt-of-not-le h)) (sym (eqb·zero-suc n))
+    go (yes h) none e ih = rw (le-ltb _ _ h, item-said (fieldsIn l), e, records-stop (length l) l e) (sym (eqb·zero-suc n))
+    go (yes h) (some (item i)) e ih = rw (le-ltb _ _ h, item-said (fieldsIn l), e, records-next l h e) (ih ∙ counted i (itemsOf (take n (recordsIn (drop recordSize l)))))
+    go (yes h) (some (head x)) e ih = rw (le-ltb _ _ h, item-said (fieldsIn l), e, records-next l h e) refl
+    go (yes h) (some flip) e ih = rw (le-ltb _ _ h, item-said (fieldsIn l), e, records-next l h e) refl
+    go (yes h) (some (pass o count)) e ih = rw (le-ltb _ _ h, item-said (fieldsIn l), e, records-next l h e) refl
 
-    -- where all that were asked for are there, one does
-    pub follows : n < count → length (left n) ≡ count - n → Follows
-    follows m e = go (decLe (recordSize * n + recordSize) (length s)) (ℕ-discrete (fieldsIn (drop (recordSize * n) s) .kind) 4)
+-- what is true of the items of so many records
+pub items-true : (n : ℕ) (l : List ℕ) (test : List Item → Bool)
+    → ifAny (itemsOf (take n (recordsIn l))) (λ items. both (eqb (length items) n) (test items)) ≡ both (itemsStand n l) (test (itemsIn n l))
+unfolding itemsIn
+items-true n l test = rw (stand-is n l) (go (itemsOf (take n (recordsIn l))))
+  where
+    go : (o : Option (List Item)) → ifAny o (λ items. both (eqb (length items) n) (test items)) ≡ both (ifAny o (λ items. eqb (length items) n)) (test (given o))
+    go none = refl
+    go (some items) = refl
+
+-- ---- one by one
+
+-- none is due
+pub items-none : (l : List ℕ) → itemsIn 0 l ≡ []
+unfolding itemsIn itemsOf
+items-none l = refl
+
+-- an item at the front, and so many more behind it
+pub record Next (n more : ℕ) (l : List ℕ) : Type 0 where
+  pub fits : recordSize ≤ length l
+  pub is-item : isItem (fieldsIn l) ≡ true
+  pub rest : itemsStand more (drop recordSize l) ≡ true
+  pub first : Item
+  pub decoded : decode l ≡ some (item first)
+  pub items : itemsIn n l ≡ first ∷ itemsIn more (drop recordSize l)
+
+next-of : (n : ℕ) (l : List ℕ) → itemsStand (suc n) l ≡ true → Next (suc n) n l
+unfolding itemsStand
+next-of n l s = go (decLe recordSize (length l))
+  where
+    go : Dec (recordSize ≤ length l) → Next (suc n) n l
+    go (no h) = never (rw (lt-ltb _ _ (lt-of-not-le h)) at s)
+    go (yes h) =
+        let x = each (isItem (fieldsIn l)) (itemsStand n (drop recordSize l)) (rw (le-ltb _ _ h) at s) in
+        let i = item-there (decode l) (sym (item-said (fieldsIn l)) ∙ x .0) in
+        record { fits = h; is-item = x .0; rest = x .1; first = i .0; decoded = i .1; items = joined h (i .1) (x .1) }
       where
-        empty : left n ≡ [] → Follows
-        empty z = absurd (omega (arith, ap length z))
+        put : (i : Item) (o : Option (List Item)) → ifAny o (λ items. eqb (length items) n) ≡ true → given (onward o (λ is. some (i ∷ is))) ≡ i ∷ given o
+        put i none e = never e
+        put i (some is) e = refl
 
-        go : Dec (recordSize * n + recordSize ≤ length s) → Dec (fieldsIn (drop (recordSize * n) s) .kind ≡ 4) → Follows
-        go (no h) k = empty (left-cut (lt-of-not-le h))
-        go (yes h) (no k) = empty (left-other h k)
-        go (yes h) (yes k) = record { fits = h; next = left-next m h k }
+        joined : {i : Item} → recordSize ≤ length l → decode l ≡ some (item i) → itemsStand n (drop recordSize l) ≡ true
+            → itemsIn (suc n) l ≡ i ∷ itemsIn n (drop recordSize l)
+        joined {i} f e r = unfold itemsIn in unfold itemsOf in rw (records-next l f e) (put i (itemsOf (take n (recordsIn (drop recordSize l)))) (sym (stand-is n (drop recordSize l)) ∙ r))
+
+-- where so many stand, one or more, the first is one
+pub next : {n : ℕ} (more : ℕ) (l : List ℕ) → n ≡ suc more → itemsStand n l ≡ true → Next n more l
+next more l e s = rw e (next-of more l (rw e at s))

@@ -2,49 +2,53 @@
 use Prim.Native.Nat.{ℕ}
 use native.Mathlib.Decide.{ℕ-discrete}
 use mathlib.Core.Path.{_≡_}
-use lib.Dec.{eqb, leb}
+use mathlib.Core.Option.{Option, none, some}
+use lib.Dec.{eqb}
 use borrow.Author.Tests.{eq-eqb, ne-eqb}
-use Rattle.octets.specs.Choice.{pick}
+use Rattle.octets.specs.Choice.{pick, onward}
 use Rattle.program.specs.declared.Fields.{Fields}
 use Rattle.program.specs.Readings.{and, or}
-use Rattle.program.specs.Records.{Record, type, attribute, path, item, peer, loops, bogon, network, time, flip, pass}
-use Rattle.program.specs.Layout.{relationIs, sideIs, comparisonIs, peerIs, isStart, operandOf, recordIs}
-use Rattle.truth.specs.Matching.{itemOf}
+use Rattle.program.specs.Records.{type, attribute, peer, loops, bogon, time, Record, head, item, flip, pass}
+use Rattle.program.specs.Kinds.{typeKind, attributeKind, pathKind, itemKind, peerKind, loopsKind, bogonKind, networkKind, timeKind}
+use Rattle.program.specs.Kinds.{flipKind, andKind, orKind}
+use Rattle.program.specs.Layout.{relationIs, sideIs, comparisonIs, itemIs, peerIs, pathIs, operandOf, networkSaid, recordIs}
 
-module _ (P : Record → Type 0) where
-  choose : (k n : ℕ) {r s : Record} → (k ≡ n → P r) → P s → P (pick (eqb k n) r s)
+module _ (P : Option Record → Type 0) where
+  choose : (k n : ℕ) {r s : Option Record} → (k ≡ n → P r) → P s → P (pick (eqb k n) r s)
   choose k n {r} {s} f g = go (ℕ-discrete k n)
     where
       go : Dec (k ≡ n) → P (pick (eqb k n) r s)
       go (yes e) = rw (eq-eqb _ _ e) (f e)
       go (no h) = rw (ne-eqb _ _ h) g
 
-  -- what holds of the record of each kind holds of the record that fields say
+  -- what holds of what fields of each kind say holds of what fields say
   pub by-kind : (f : Fields)
-      → (f .kind ≡ 1 → P (type (f .a)))
-      → (f .kind ≡ 2 → P (attribute (f .a)))
-      → (f .kind ≡ 3 → P (path (isStart (f .variant)) (leb 2 (f .variant)) (f .count)))
-      → (f .kind ≡ 4 → P (item (itemOf f)))
-      → (f .kind ≡ 5 → P (peer (peerIs (f .variant) (f .a) (f .b))))
-      → (f .kind ≡ 6 → P loops)
-      → (f .kind ≡ 7 → P bogon)
-      → (f .kind ≡ 8 → P (network (relationIs (f .variant)) (operandOf f) (sideIs (f .b))))
-      → (f .kind ≡ 9 → P (time (comparisonIs (f .variant)) (f .a) (f .b)))
-      → (f .kind ≡ 11 → P (pass and (f .count)))
-      → (f .kind ≡ 12 → P (pass or (f .count)))
-      → P flip
+      → (f .kind ≡ typeKind → P (some (head (type (f .a)))))
+      → (f .kind ≡ attributeKind → P (some (head (attribute (f .a)))))
+      → (f .kind ≡ pathKind → P (onward (pathIs (f .variant) (f .count)) (λ h. some (head h))))
+      → (f .kind ≡ itemKind → P (onward (itemIs (f .variant) (f .a)) (λ i. some (item i))))
+      → (f .kind ≡ peerKind → P (onward (peerIs (f .variant) (f .a) (f .b)) (λ p. some (head (peer p)))))
+      → (f .kind ≡ loopsKind → P (some (head loops)))
+      → (f .kind ≡ bogonKind → P (some (head bogon)))
+      → (f .kind ≡ networkKind → P (onward (networkSaid (relationIs (f .variant)) (operandOf f) (sideIs (f .b))) (λ h. some (head h))))
+      → (f .kind ≡ timeKind → P (onward (comparisonIs (f .variant)) (λ c. some (head (time c (f .a) (f .b))))))
+      → P (some flip)
+      → P (some (pass and (f .count)))
+      → P (some (pass or (f .count)))
+      → P none
       → P (recordIs f)
   unfolding recordIs
-  by-kind f a b c d e g h i j k l m =
+  by-kind f a b c d e g h i j k l m n =
       let kind = f .kind in
-      choose kind 1 a
-      (choose kind 2 b
-      (choose kind 3 c
-      (choose kind 4 d
-      (choose kind 5 e
-      (choose kind 6 g
-      (choose kind 7 h
-      (choose kind 8 i
-      (choose kind 9 j
-      (choose kind 11 k
-      (choose kind 12 l m))))))))))
+      choose kind typeKind a
+      (choose kind attributeKind b
+      (choose kind pathKind c
+      (choose kind itemKind d
+      (choose kind peerKind e
+      (choose kind loopsKind g
+      (choose kind bogonKind h
+      (choose kind networkKind i
+      (choose kind timeKind j
+      (choose kind flipKind (λ q. k)
+      (choose kind andKind (λ q. l)
+      (choose kind orKind (λ q. m) n)))))))))))

@@ -7,6 +7,6 @@ pub mod Machines
 pub mod Meanings
 pub mod PathReads
 pub mod PrefixReads
-pub mod StepCounts
+pub mod Spending
 pub mod TruthReads
 pub mod Verdicts

@@ -1,21 +1,15 @@
 -- What `isTrue` decides: what each test means on a message. Assumes nothing.
-use Prim.Native.Nat.{ℕ, zero, suc, _<_, suc-le-suc}
-use native.Mathlib.Nat.{le-of-suc-le-suc, not-suc-le-zero}
-use native.Mathlib.Omega.{arith}
+use Prim.Native.Nat.{ℕ}
 use mathlib.Core.Path.{_≡_, refl, sym, ap, _∙_}
-use mathlib.Core.Bool.{Bool, true, false}
+use mathlib.Core.Bool.{Bool, true}
 use mathlib.Core.Logic.{_↔_}
-use mathlib.Core.List.{List, [], _∷_, map}
+use mathlib.Core.List.{List}
 use mathlib.Core.Option.{Option, some, none}
-use lib.ListN.{length, getD}
-use lib.Dec.{eqb}
 use borrow.Author.Tests.{eqb-true, eq-eqb, leb-true, le-leb, ltb-true, lt-ltb}
-use Rattle.octets.specs.Choice.{pick}
-use Rattle.octets.proofs.Choices.{never, either, second, pick-both}
-use Rattle.octets.proofs.Every.{every-place}
-use Rattle.network.specs.declared.Network.{Network}
+use Rattle.octets.proofs.Choices.{never, pick-both}
+use Rattle.octets.proofs.Some.{some-of-every, passes-sound, passes-complete}
 use Rattle.network.specs.declared.Relation.{Relation}
-use Rattle.network.specs.Networks.{relates}
+use Rattle.network.specs.Networks.{Network}
 use Rattle.network.proofs.Covers.{relates-sound, relates-complete}
 use Rattle.aspath.specs.Members.{Segment, Member, members}
 use Rattle.aspath.specs.Loops as loops
@@ -24,53 +18,14 @@ use Rattle.aspath.specs.Patterns.{matches}
 use Rattle.aspath.proofs.MeaningLoops.{loop-sound, loop-complete}
 use Rattle.aspath.proofs.MeaningBogons.{some-sound, some-complete}
 use Rattle.aspath.proofs.MeaningPatterns.{matches-sound, matches-complete}
-use Rattle.attributes.specs.Attribute.{Attribute, atomicAggregate, codeOf, firstOf, askPath}
-use Rattle.attributes.specs.Codes.{elem}
+use Rattle.attributes.specs.Attribute.{firstOf, askPath}
 use Rattle.message.specs.Message.{Message, update}
-use Rattle.message.specs.Represents.{addressBits}
-use Rattle.program.specs.Readings.{byAs, byAddress, byBoth, Side, Comparison, equal, below, atMost, above, atLeast, Test, typeIs, hasAttribute, pathMatches, peerIs, hasLoop, hasBogon, networkIs, timeIs}
-use Rattle.truth.specs.Means.{HasPath, HasCode, prefixesOn, HasPrefix, Compares, Means, type, attribute, path, peerNumber, peerAddress, peerBoth, loop, bogon, network, time, onSegments, onPath, somePrefix, compares, isTrue}
+use Rattle.program.specs.Readings.{byAs, byAddress, byBoth, Side, Comparison, equal, below, atMost, above, atLeast}
+use Rattle.program.specs.Readings.{Test, typeIs, hasAttribute, pathMatches, peerIs, hasLoop, hasBogon, networkIs, timeIs}
+use Rattle.truth.specs.Means.{HasPath, HasCode, HasPrefix, Compares}
+use Rattle.truth.specs.Means.{Means, type, attribute, path, peerNumber, peerAddress, peerBoth, loop, bogon, network, time}
+use Rattle.truth.specs.Means.{ifAny, onPath, somePrefix, compares, isTrue}
 use Rattle.truth.proofs.Addresses.{PrefixesAddressed, OperandAddressed, side-addressed}
-
--- ---- some member of a list passes a test
-
-module _ {A : Type 0} (passes : A → Bool) where
-  -- some member passes
-  unfoldable somePasses : List A → Bool
-  somePasses [] = false
-  somePasses (a ∷ more) = pick (passes a) true (somePasses more)
-
-  -- where one was found, one passes
-  passes-sound : (d : A) (xs : List A) → somePasses xs ≡ true → (place : ℕ) × (place < length xs) × (passes (getD xs place d) ≡ true)
-  unfolding somePasses
-  passes-sound d [] e = never e
-  passes-sound d (a ∷ more) e = go (passes-sound d more)
-    where
-      go : (somePasses more ≡ true → (place : ℕ) × (place < length more) × (passes (getD more place d) ≡ true))
-          → (place : ℕ) × (place < length (a ∷ more)) × (passes (getD (a ∷ more) place d) ≡ true)
-      go ih =
-          either (passes a) (somePasses more) e
-          (λ h. (0, omega arith, h))
-          (λ h. let o = ih h in (suc (o .0), suc-le-suc (o .1), o .2))
-
-  -- and none is missed
-  passes-complete : (d : A) (xs : List A) (place : ℕ) → place < length xs → passes (getD xs place d) ≡ true → somePasses xs ≡ true
-  unfolding somePasses
-  passes-complete d [] place h e = absurd (not-suc-le-zero h)
-  passes-complete d (a ∷ more) zero h e = rw e
-  passes-complete d (a ∷ more) (suc place) h e = second (passes a) (passes-complete d more place (le-of-suc-le-suc h) e)
-
--- an attribute of a code is such a member
-code-passes : (code : ℕ) (l : List Attribute) → elem code (map codeOf l) ≡ somePasses (λ a. eqb (codeOf a) code) l
-unfolding elem somePasses
-code-passes code [] = refl
-code-passes code (a ∷ more) = rw (code-passes code more)
-
--- and so is a prefix that stands so to a network
-prefix-passes : (r : Relation) (operand : Network) (l : List Network) → somePrefix r operand l ≡ somePasses (λ n. relates addressBits r operand n) l
-unfolding somePrefix somePasses
-prefix-passes r operand [] = refl
-prefix-passes r operand (n ∷ more) = rw (prefix-passes r operand more)
 
 -- ---- parts of the tests
 
@@ -79,33 +34,27 @@ code-sound : (m : Message) (code : ℕ) → isTrue m (hasAttribute code) ≡ tru
 unfolding isTrue
 code-sound m code e =
     let b = pick-both _ _ .0 e in
-    let o = passes-sound (λ a. eqb (codeOf a) code) atomicAggregate (m .attributes) (sym (code-passes code (m .attributes)) ∙ b .1) in
-    record { is-update = eqb-true _ _ (b .0); place = o .0; within = o .1; coded = eqb-true _ _ (o .2) }
+    record { is-update = eqb-true _ _ (b .0); coded = passes-sound (λ a h. eqb-true _ _ h) (b .1) }
 
 -- and none is missed
 code-complete : {m : Message} {code : ℕ} → HasCode m code → isTrue m (hasAttribute code) ≡ true
 unfolding isTrue
-code-complete {m} {code} h =
-    pick-both _ _ .1
-    (eq-eqb _ _ (h .is-update), code-passes code (m .attributes) ∙ passes-complete (λ a. eqb (codeOf a) code) atomicAggregate (m .attributes) (h .place) (h .within) (eq-eqb _ _ (h .coded)))
+code-complete h = pick-both _ _ .1 (eq-eqb _ _ (h .is-update), passes-complete (λ a e. eq-eqb _ _ e) (h .coded))
 
 -- a prefix that was found is there
 prefix-sound : (m : Message) (r : Relation) (n : Network) (s : Side) → isTrue m (networkIs r n s) ≡ true → HasPrefix m r n s
-unfolding isTrue
+unfolding isTrue somePrefix
 prefix-sound m r n s e =
     let b = pick-both _ _ .0 e in
-    let o = passes-sound (λ p. relates addressBits r n p) n (prefixesOn s m) (sym (prefix-passes r n (prefixesOn s m)) ∙ b .1) in
-    record { is-update = eqb-true _ _ (b .0); place = o .0; within = o .1; relates = relates-sound addressBits r n (getD (prefixesOn s m) (o .0) n) (o .2) }
+    record { is-update = eqb-true _ _ (b .0); relates = passes-sound (relates-sound r n) (b .1) }
 
 -- and none is missed
 prefix-complete : {m : Message} {r : Relation} {n : Network} {s : Side} → PrefixesAddressed m → OperandAddressed (networkIs r n s)
     → HasPrefix m r n s → isTrue m (networkIs r n s) ≡ true
-unfolding isTrue
-prefix-complete {m} {r} {n} {s} a o h =
-    let p = getD (prefixesOn s m) (h .place) n in
-    let k = relates-complete addressBits r n p (o .below) (every-place (side-addressed a s) n (h .place) (h .within) .below) (h .relates) in
+unfolding isTrue somePrefix
+prefix-complete {r = r} {n = n} {s = s} a o h =
     pick-both _ _ .1
-    (eq-eqb _ _ (h .is-update), prefix-passes r n (prefixesOn s m) ∙ passes-complete (λ q. relates addressBits r n q) n (prefixesOn s m) (h .place) (h .within) k)
+    (eq-eqb _ _ (h .is-update), passes-complete (λ p x. relates-complete r n p (o .below) (x .1 .below) (x .0)) (some-of-every (side-addressed a s) (h .relates)))
 
 -- a message has one path at most
 pub path-one : {m : Message} {p q : List Member} → HasPath m p → HasPath m q → p ≡ q
@@ -118,7 +67,7 @@ path-sound : (m : Message) (test : List Member → Bool) → onPath m test ≡ t
 unfolding onPath
 path-sound m test e = let b = pick-both _ _ .0 e in go (eqb-true _ _ (b .0)) (firstOf askPath (m .attributes)) refl (b .1)
   where
-    go : m .kind ≡ update → (o : Option (List Segment)) → firstOf askPath (m .attributes) ≡ o → onSegments o test ≡ true
+    go : m .type ≡ update → (o : Option (List Segment)) → firstOf askPath (m .attributes) ≡ o → ifAny o (λ segments. test (members segments)) ≡ true
         → (p : List Member) × HasPath m p × (test p ≡ true)
     go u none f k = never k
     go u (some s) f k = (members s, record { is-update = u; segments = s; present = f; joined = refl }, k)
@@ -152,7 +101,7 @@ means-sound m hasBogon e = let o = path-sound m someBogon e in bogon (o .1) (som
 means-sound m (networkIs r n s) e = network (prefix-sound m r n s e)
 means-sound m (timeIs c seconds micros) e = time (compares-means c _ _ .0 e)
 
--- and no true test is missed, where the addresses that it compares have 32 bits
+-- and no true test is missed, where the addresses that it compares have their networks' bits
 pub means-complete : {m : Message} {t : Test} → PrefixesAddressed m → OperandAddressed t → Means m t → isTrue m t ≡ true
 unfolding isTrue
 means-complete a o (type e) = eq-eqb _ _ e

@@ -3,17 +3,16 @@ use Prim.Native.Nat.{ℕ}
 use mathlib.Core.Path.{_≡_, refl}
 use mathlib.Core.Bool.{Bool, true, false}
 use mathlib.Core.List.{List, [], _∷_}
-use lib.Dec.{leb}
 use Rattle.aspath.specs.declared.Item.{Item}
 use Rattle.aspath.specs.declared.Cursor.{Cursor}
 use Rattle.aspath.specs.declared.Next.{Next}
 use Rattle.aspath.specs.declared.Next.the-variants as next
-use Rattle.aspath.specs.Members.{Member}
+use Rattle.aspath.specs.Members.{Member, memberOf}
 use Rattle.aspath.specs.Cursors.{remaining, nextAt}
 use Rattle.aspath.specs.Patterns.{fits, matchesHere, matchesSome, matches}
 use Rattle.aspath.proofs.Cursors.{member-view, end-view}
 use Rattle.program.specs.declared.Fields.{Fields}
-use Rattle.program.specs.Layout.{isStart}
+use Rattle.program.specs.Layout.{isStart, isEnd}
 use Rattle.truth.specs.Matching.{endsAt, matchesAt, patternOf}
 
 module _ (end : Bool) (w : ℕ) (s : List ℕ) where
@@ -34,14 +33,14 @@ module _ (end : Bool) (w : ℕ) (s : List ℕ) where
       unfolding matchesAt
       at-end e = rw e refl
 
-      module _ {n : Member} {after : Cursor} (e : nextAt w s c ≡ next.Member n after) where
+      module _ {n : ℕ} {after : Cursor} (e : nextAt w s c ≡ next.Member n after) where
         -- the item doesn't match the member
-        pub at-other : fits i n ≡ false → matchesAt end (i ∷ is) w s c ≡ false
+        pub at-other : fits i (memberOf n) ≡ false → matchesAt end (i ∷ is) w s c ≡ false
         unfolding matchesAt
         at-other h = rw (e, h) refl
 
         -- it does
-        pub at-next : fits i n ≡ true → matchesAt end (i ∷ is) w s c ≡ matchesAt end is w s after
+        pub at-next : fits i (memberOf n) ≡ true → matchesAt end (i ∷ is) w s c ≡ matchesAt end is w s after
         unfolding matchesAt
         at-next h = rw (e, h) refl
 
@@ -85,9 +84,9 @@ module _ (end : Bool) (is : List Item) where
 
 module _ (f : Fields) (is : List Item) (path : List Member) where
   -- pinned to the first member
-  pub pinned : isStart (f .variant) ≡ true → matches (patternOf f is) path ≡ matchesHere (leb 2 (f .variant)) is path
+  pub pinned : isStart (f .variant) ≡ true → matches (patternOf f is) path ≡ matchesHere (isEnd (f .variant)) is path
   pinned e = rw e refl
 
   -- not so
-  pub free : isStart (f .variant) ≡ false → matches (patternOf f is) path ≡ matchesSome (leb 2 (f .variant)) is path
+  pub free : isStart (f .variant) ≡ false → matches (patternOf f is) path ≡ matchesSome (isEnd (f .variant)) is path
   free e = rw e refl

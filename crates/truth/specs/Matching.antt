@@ -1,35 +1,54 @@
--- What the functions below `holds` compute, from the fields of a record.
-use Prim.Native.Nat.{ℕ}
+-- What the functions below `holds` compute, from the fields of a record and the bytes behind it.
+use Prim.Native.Nat.{ℕ, _+_, _*_}
 use mathlib.Core.Bool.{Bool, true, false}
+use mathlib.Core.Option.{Option, none, some}
 use mathlib.Core.List.{List, [], _∷_}
+use lib.ListN.{take}
 use lib.Dec.{eqb, leb}
 use Rattle.octets.specs.Choice.{pick, both}
 use Rattle.aspath.specs.declared.Item.{Item}
 use Rattle.aspath.specs.declared.Cursor.{Cursor}
 use Rattle.aspath.specs.declared.Next.{Next}
 use Rattle.aspath.specs.declared.Next.the-variants as next
-use Rattle.aspath.specs.Members.{Member}
+use Rattle.aspath.specs.Members.{Member, memberOf}
 use Rattle.aspath.specs.Cursors.{nextAt}
 use Rattle.aspath.specs.Loops.{hasLoop}
 use Rattle.aspath.specs.Bogons.{someBogon}
 use Rattle.aspath.specs.Patterns.{Pattern, fits, matches}
+use Rattle.message.specs.Message.{Message}
 use Rattle.program.specs.declared.Fields.{Fields}
-use Rattle.program.specs.Layout.{itemIs, isStart}
-use Rattle.program.specs.Machine.{recordsIn, itemsAfter}
+use Rattle.program.specs.Records.{second}
+use Rattle.program.specs.Kinds.{pathKind, loopsKind, bogonKind}
+use Rattle.program.specs.Layout.{relationIs, sideIs, comparisonIs, peerIs, isStart, isEnd, operandOf, recordsIn}
+use Rattle.program.specs.Checks.{followingIn, followsIn}
+use Rattle.truth.specs.Means.{ifAny, samePeer, somePrefix, prefixesOn, compares}
+use Rattle.truth.specs.Records.{itemsOf}
 
 -- ---- what the code computes
 
--- the item of an item record
-abbrev pub itemOf : Fields → Item
-itemOf f = itemIs (f .variant) (f .a)
+-- the tests of the peer, the time and the network, false where a variant or a side isn't one
 
--- the items at the front of a program's records, up to a count
-abbrev pub itemsIn : ℕ → List ℕ → List Item
-itemsIn count records = itemsAfter count (recordsIn records)
+abbrev pub peerTest : Fields → ℕ → ℕ → Bool
+peerTest f address number = ifAny (peerIs (f .variant) (f .a) (f .b)) (λ p. samePeer p address number)
+
+abbrev pub timeTest : Fields → ℕ → Bool
+timeTest f seconds = ifAny (comparisonIs (f .variant)) (λ c. compares c (seconds * second) (f .a * second + f .b))
+
+abbrev pub networkTest : Fields → Message → Bool
+networkTest f m = ifAny (relationIs (f .variant)) (λ r. ifAny (sideIs (f .b)) (λ side. somePrefix r (operandOf f) (prefixesOn side m)))
+
+-- items, none where there are none to be had
+abbrev pub given : Option (List Item) → List Item
+given none = []
+given (some items) = items
+
+-- the items that so many records at the front are
+unfoldable pub itemsIn : ℕ → List ℕ → List Item
+itemsIn count records = given (itemsOf (take count (recordsIn records)))
 
 -- what stands at a cursor decides: a member with the cursor after it, or nothing more
 abbrev onNext : Next → (Member → Cursor → Bool) → Bool → Bool
-onNext (next.Member n after) member end = member n after
+onNext (next.Member n after) member end = member (memberOf n) after
 onNext next.End member end = end
 
 -- no member stands there
@@ -43,11 +62,15 @@ matchesAt end (i ∷ is) w path c = onNext (nextAt w path c) (λ m after. both (
 
 -- the pattern of a path record and its items
 abbrev pub patternOf : Fields → List Item → Pattern
-patternOf f items = record { start = isStart (f .variant); items = items; end = leb 2 (f .variant) }
+patternOf f items = record { start = isStart (f .variant); items = items; end = isEnd (f .variant) }
+
+-- a path's pattern matches: its variant is one, its items stand behind it, and they match
+abbrev pub pathMatches : Fields → List ℕ → List Member → Bool
+pathMatches f behind path = both (leb (f .variant) 3) (both (followsIn f behind) (matches (patternOf f (itemsIn (followingIn f) behind)) path))
 
 -- a test of the path; a record of another kind is none
-unfoldable pub pathTest : Fields → List Item → List Member → Bool
-pathTest f items path =
-    pick (eqb (f .kind) 3) (matches (patternOf f items) path)
-    (pick (eqb (f .kind) 6) (hasLoop path)
-    (pick (eqb (f .kind) 7) (someBogon path) false))
+unfoldable pub pathTest : Fields → List ℕ → List Member → Bool
+pathTest f behind path =
+    pick (eqb (f .kind) pathKind) (pathMatches f behind path)
+    (pick (eqb (f .kind) loopsKind) (hasLoop path)
+    (pick (eqb (f .kind) bogonKind) (someBogon path) false))

@@ -1,39 +1,37 @@
 -- What each test means on a message.
 use Prim.Native.Nat.{ℕ, _+_, _*_, _≤_, _<_}
 use mathlib.Core.Path.{_≡_}
-use mathlib.Core.Bool.{Bool, true, false}
+use mathlib.Core.Bool.{Bool, false}
 use mathlib.Core.Option.{Option, some, none}
-use mathlib.Core.List.{List, [], _∷_, _++_, map}
-use lib.ListN.{length, getD}
+use mathlib.Core.List.{List, _++_}
 use lib.Dec.{eqb, leb, ltb}
-use Rattle.octets.specs.Choice.{pick, both}
-use Rattle.network.specs.declared.Network.{Network}
+use Rattle.octets.specs.Choice.{both}
+use Rattle.octets.specs.Lists.{Some, somePasses}
 use Rattle.network.specs.declared.Relation.{Relation}
-use Rattle.network.specs.Networks.{Relates, relates}
+use Rattle.network.specs.Networks.{Network, Relates, relates}
 use Rattle.aspath.specs.Members.{Segment, Member, members}
 use Rattle.aspath.specs.Loops.{Loop}
 use Rattle.aspath.specs.Loops as loops
 use Rattle.aspath.specs.Bogons.{HasBogon, someBogon}
 use Rattle.aspath.specs.Patterns.{Pattern, Matches, matches}
-use Rattle.attributes.specs.Attribute.{atomicAggregate, codeOf, firstOf, askPath}
-use Rattle.attributes.specs.Codes.{elem}
+use Rattle.attributes.specs.Attribute.{Attribute, codeOf, firstOf, askPath}
 use Rattle.message.specs.Message.{Message, update}
-use Rattle.message.specs.Represents.{addressBits}
-use Rattle.program.specs.Readings.{Peer, byAs, byAddress, byBoth, Side, eitherSide, announced, withdrawn, Comparison, equal, below, atMost, above, atLeast, Test, typeIs, hasAttribute, pathMatches, peerIs, hasLoop, hasBogon, networkIs, timeIs}
+use Rattle.program.specs.Readings.{Peer, byAs, byAddress, byBoth, Side, eitherSide, announced, withdrawn}
+use Rattle.program.specs.Readings.{Comparison, equal, below, atMost, above, atLeast}
+use Rattle.program.specs.Readings.{Test, typeIs, hasAttribute, pathMatches, peerIs, hasLoop, hasBogon, networkIs, timeIs}
+use Rattle.program.specs.Records.{second}
 
 -- the path of an UPDATE that has an AS_PATH
 pub record HasPath (m : Message) (path : List Member) : Type 0 where
-  pub is-update : m .kind ≡ update
+  pub is-update : m .type ≡ update
   pub segments : List Segment
   pub present : firstOf askPath (m .attributes) ≡ some segments
   pub joined : members segments ≡ path
 
 -- an UPDATE with an attribute of a code
 pub record HasCode (m : Message) (code : ℕ) : Type 0 where
-  pub is-update : m .kind ≡ update
-  pub place : ℕ
-  pub within : place < length (m .attributes)
-  pub coded : codeOf (getD (m .attributes) place atomicAggregate) ≡ code
+  pub is-update : m .type ≡ update
+  pub coded : Some (λ (a : Attribute). codeOf a ≡ code) (m .attributes)
 
 -- the prefixes that a network test looks at
 abbrev pub prefixesOn : Side → Message → List Network
@@ -43,10 +41,8 @@ prefixesOn withdrawn m = m .withdrawn
 
 -- an UPDATE with a prefix that stands so to a network
 pub record HasPrefix (m : Message) (r : Relation) (operand : Network) (s : Side) : Type 0 where
-  pub is-update : m .kind ≡ update
-  pub place : ℕ
-  pub within : place < length (prefixesOn s m)
-  pub relates : Relates addressBits r operand (getD (prefixesOn s m) place operand)
+  pub is-update : m .type ≡ update
+  pub relates : Some (λ (n : Network). Relates r operand n) (prefixesOn s m)
 
 abbrev pub Compares : Comparison → ℕ → ℕ → Type 0
 Compares equal a b = a ≡ b
@@ -55,13 +51,9 @@ Compares atMost a b = a ≤ b
 Compares above a b = b < a
 Compares atLeast a b = b ≤ a
 
--- a second in microseconds
-abbrev pub second : ℕ
-second = 1000000
-
 -- a test is true of a message
 pub data Means (m : Message) : Test → Type 0 where
-  type : {code : ℕ} → m .kind ≡ code → Means m (typeIs code)
+  type : {code : ℕ} → m .type ≡ code → Means m (typeIs code)
   attribute : {code : ℕ} → HasCode m code → Means m (hasAttribute code)
   path : {p : Pattern} {members : List Member} → HasPath m members → Matches p members → Means m (pathMatches p)
   peerNumber : {n : ℕ} → m .peerAs ≡ n → Means m (peerIs (byAs n))
@@ -76,7 +68,7 @@ pub data Means (m : Message) : Test → Type 0 where
 -- ---- what the code computes
 
 abbrev isUpdate : Message → Bool
-isUpdate m = eqb (m .kind) update
+isUpdate m = eqb (m .type) update
 
 -- a peer against an address and an AS number
 abbrev pub samePeer : Peer → ℕ → ℕ → Bool
@@ -84,17 +76,17 @@ samePeer (byAs n) address number = eqb number n
 samePeer (byAddress a) address number = eqb address a
 samePeer (byBoth a n) address number = both (eqb address a) (eqb number n)
 
-abbrev pub onSegments : Option (List Segment) → (List Member → Bool) → Bool
-onSegments none test = false
-onSegments (some segments) test = test (members segments)
+-- a test of what is there, false where nothing is
+abbrev pub ifAny : {A : Type 0} → Option A → (A → Bool) → Bool
+ifAny none test = false
+ifAny (some a) test = test a
 
 -- a test of the path
 unfoldable pub onPath : Message → (List Member → Bool) → Bool
-onPath m test = both (isUpdate m) (onSegments (firstOf askPath (m .attributes)) test)
+onPath m test = both (isUpdate m) (ifAny (firstOf askPath (m .attributes)) (λ segments. test (members segments)))
 
 unfoldable pub somePrefix : Relation → Network → List Network → Bool
-somePrefix r operand [] = false
-somePrefix r operand (n ∷ more) = pick (relates addressBits r operand n) true (somePrefix r operand more)
+somePrefix r operand prefixes = somePasses (λ n. relates r operand n) prefixes
 
 abbrev pub compares : Comparison → ℕ → ℕ → Bool
 compares equal a b = eqb a b
@@ -104,8 +96,8 @@ compares above a b = ltb b a
 compares atLeast a b = leb b a
 
 unfoldable pub isTrue : Message → Test → Bool
-isTrue m (typeIs code) = eqb (m .kind) code
-isTrue m (hasAttribute code) = both (isUpdate m) (elem code (map codeOf (m .attributes)))
+isTrue m (typeIs code) = eqb (m .type) code
+isTrue m (hasAttribute code) = both (isUpdate m) (somePasses (λ a. eqb (codeOf a) code) (m .attributes))
 isTrue m (pathMatches p) = onPath m (matches p)
 isTrue m (peerIs p) = samePeer p (m .peerAddress) (m .peerAs)
 isTrue m hasLoop = onPath m loops.hasLoop

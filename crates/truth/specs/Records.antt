@@ -1,34 +1,48 @@
--- The truth of a test record, from its own fields and the item records after it.
+-- The truth of a test's record, from itself and the records that follow it.
 use Prim.Native.Nat.{ℕ, _+_}
 use mathlib.Core.Bool.{Bool, false}
-use mathlib.Core.List.{List}
-use lib.ListN.{drop}
+use mathlib.Core.Option.{Option, none, some}
+use mathlib.Core.List.{List, [], _∷_}
+use lib.ListN.{length, take, drop}
+use lib.Dec.{eqb}
+use Rattle.octets.specs.Choice.{both, onward}
 use Rattle.aspath.specs.declared.Item.{Item}
 use Rattle.message.specs.Message.{Message}
 use Rattle.program.specs.Readings.{typeIs, hasAttribute, pathMatches, peerIs, hasLoop, hasBogon, networkIs, timeIs}
-use Rattle.program.specs.Records.{Record, type, attribute, path, item, peer, loops, bogon, network, time, flip, pass}
-use Rattle.program.specs.Layout.{recordSize, decode}
-use Rattle.program.specs.Machine.{recordsIn, countOf, itemsAfter}
-use Rattle.truth.specs.Means.{isTrue}
+use Rattle.program.specs.Records.{Head, type, attribute, path, peer, loops, bogon, network, time, Record, head, item, flip, pass, countOf}
+use Rattle.program.specs.Layout.{recordSize, decode, recordsIn}
+use Rattle.truth.specs.Means.{ifAny, isTrue}
 
--- a record that is no test is false
-unfoldable pub recordTruth : Message → Record → List Item → Bool
-recordTruth m (type code) items = isTrue m (typeIs code)
-recordTruth m (attribute code) items = isTrue m (hasAttribute code)
-recordTruth m (path start end count) items = isTrue m (pathMatches (record { start = start; items = items; end = end }))
-recordTruth m (item i) items = false
-recordTruth m (peer p) items = isTrue m (peerIs p)
-recordTruth m loops items = isTrue m hasLoop
-recordTruth m bogon items = isTrue m hasBogon
-recordTruth m (network r n s) items = isTrue m (networkIs r n s)
-recordTruth m (time c seconds micros) items = isTrue m (timeIs c seconds micros)
-recordTruth m flip items = false
-recordTruth m (pass o count) items = false
+-- the items that records are, if each is one
+unfoldable pub itemsOf : List Record → Option (List Item)
+itemsOf [] = some []
+itemsOf (item i ∷ rs) = onward (itemsOf rs) (λ is. some (i ∷ is))
+itemsOf (head h ∷ rs) = none
+itemsOf (flip ∷ rs) = none
+itemsOf (pass o count ∷ rs) = none
 
--- the items of the record at a place of a program
-abbrev itemsAt : List ℕ → ℕ → List Item
-itemsAt program at = itemsAfter (countOf (decode (drop at program))) (recordsIn (drop (at + recordSize) program))
+-- a path is true if items follow it, as many as it counts, and the pattern of these is
+unfoldable pub recordTruth : Message → Head → List Record → Bool
+recordTruth m (type code) following = isTrue m (typeIs code)
+recordTruth m (attribute code) following = isTrue m (hasAttribute code)
+recordTruth m (path start end count) following =
+    ifAny (itemsOf following) (λ items. both (eqb (length items) count) (isTrue m (pathMatches (record { start = start; items = items; end = end }))))
+recordTruth m (peer p) following = isTrue m (peerIs p)
+recordTruth m loops following = isTrue m hasLoop
+recordTruth m bogon following = isTrue m hasBogon
+recordTruth m (network r n s) following = isTrue m (networkIs r n s)
+recordTruth m (time c seconds micros) following = isTrue m (timeIs c seconds micros)
+
+-- ---- what the code computes
+
+-- a record's truth, with those of its count after it; one that is no test, and bytes that are no record, are false
+abbrev pub truthOf : Message → Option Record → List Record → Bool
+truthOf m (some (head h)) after = recordTruth m h (take (countOf h) after)
+truthOf m (some (item i)) after = false
+truthOf m (some flip) after = false
+truthOf m (some (pass o count)) after = false
+truthOf m none after = false
 
 -- the truth of the record at a place of a program
 unfoldable pub truthAt : Message → List ℕ → ℕ → Bool
-truthAt m program at = recordTruth m (decode (drop at program)) (itemsAt program at)
+truthAt m program at = truthOf m (decode (drop at program)) (recordsIn (drop (at + recordSize) program))

@@ -1,42 +1,43 @@
 // Whether a test is true of a message.
 ghost use mathlib.Core.Path.{_≡_};
-ghost use Prim.Native.Nat.{_+_, _*_};
-ghost use lib.ListN.{length, drop};
+ghost use mathlib.Core.Bool.{true};
+ghost use mathlib.Core.Option.{some};
+ghost use Prim.Native.Nat.{_+_, _*_, _≤_};
+ghost use lib.ListN.{drop};
+ghost use Rattle.network.specs.Networks.{networkIn};
+ghost use Rattle.aspath.specs.Members.{members};
 ghost use Rattle.aspath.specs.Wire.{widthBytes, membersOf};
-ghost use Rattle.aspath.specs.Patterns.{matchesSome, matches};
+ghost use Rattle.aspath.specs.Patterns.{matchesSome};
 ghost use Rattle.aspath.specs.Cursors.{nextAt};
 ghost use Rattle.attributes.specs.Attribute.{firstOf, askPath};
 ghost use Rattle.attributes.specs.Wire.{rawsOf, codes};
 ghost use Rattle.attributes.specs.Codes.{elem};
 ghost use Rattle.attributes.specs.Bodies.{attributesOf};
-ghost use Rattle.message.specs.Decode.{partOf, networksOf, messageAt};
-ghost use Rattle.program.specs.Layout.{relationIs, sideIs, comparisonIs, peerIs, isStart, operandOf, fieldsIn};
-ghost use Rattle.truth.specs.Means.{second, samePeer, onSegments, somePrefix, prefixesOn, compares};
+ghost use Rattle.message.specs.Decode.{networksOf, messageAt};
+ghost use Rattle.program.specs.Records.{second, item};
+ghost use Rattle.program.specs.Layout.{relationIs, isStart, isEnd, fieldsIn, decode};
+ghost use Rattle.program.specs.Checks.{isItem, itemsStand};
+ghost use Rattle.truth.specs.Means.{ifAny, somePrefix};
 ghost use Rattle.truth.specs.Records.{truthAt};
-ghost use Rattle.truth.specs.Matching.{itemOf, itemsIn, endsAt, matchesAt, patternOf, pathTest};
+ghost use Rattle.truth.specs.Matching.{peerTest, timeTest, networkTest, itemsIn, endsAt, matchesAt, pathMatches, pathTest};
 use aspath::Cursor;
 use aspath::Item;
 use aspath::Next;
 use aspath::Width;
 use attributes::Found;
-use message::Part;
 use message::Parts;
 use network::Network;
 use network::Relation;
 use program::Fields;
 
-// The bytes of a part.
-fn part_of(s: &[u8], part: Part) -> &[u8]
-    ensures { λ r. ⌜ now r ≡ partOf (now (s .entry)) part ⌝ }
-{
-    octets::part(s, part.start, part.len)
-}
+// A second in microseconds, as times are compared.
+const SECOND: u64 = program::SECOND as u64;
 
-// Whether an attribute of a section has a code: one byte holds no code over 255.
+// Whether an attribute of a section has a code, which is one byte.
 fn has_code(section: &[u8], code: u32) -> bool
     ensures { λ r. ⌜ r ≡ elem code (codes (rawsOf (now (section .entry)))) ⌝ }
 {
-    if 255 < code {
+    if program::CODE_LIMIT <= code {
         return false;
     }
     let found = attributes::find(section, code as u8);
@@ -47,13 +48,16 @@ fn has_code(section: &[u8], code: u32) -> bool
 }
 
 fn same_peer(f: Fields, address: u32, number: u32) -> bool
-    ensures { λ r. ⌜ r ≡ samePeer (peerIs (f .variant) (f .a) (f .b)) address number ⌝ }
+    ensures { λ r. ⌜ r ≡ peerTest f address number ⌝ }
 {
     if f.variant == 1 {
         return number == f.b;
     }
     if f.variant == 2 {
         return address == f.a;
+    }
+    if f.variant != 3 {
+        return false;
     }
     if address != f.a {
         return false;
@@ -65,12 +69,12 @@ fn same_peer(f: Fields, address: u32, number: u32) -> bool
 fn micros(seconds: u32, fraction: u32) -> u64
     ensures { λ r. ⌜ r ≡ seconds * second + fraction ⌝ }
 {
-    (seconds as u64) * 1000000 + (fraction as u64)
+    (seconds as u64) * SECOND + (fraction as u64)
 }
 
 // A record's time, whose own fraction is 0, against the operand's.
 fn in_time(f: Fields, seconds: u32) -> bool
-    ensures { λ r. ⌜ r ≡ compares (comparisonIs (f .variant)) (seconds * second) (f .a * second + f .b) ⌝ }
+    ensures { λ r. ⌜ r ≡ timeTest f seconds ⌝ }
 {
     let time = micros(seconds, 0);
     let operand = micros(f.a, f.b);
@@ -80,12 +84,14 @@ fn in_time(f: Fields, seconds: u32) -> bool
         1 => time < operand,
         2 => time <= operand,
         3 => operand < time,
-        _ => operand <= time,
+        4 => operand <= time,
+        _ => false,
     }
 }
 
 fn relation_of(variant: u32) -> Relation
-    ensures { λ r. ⌜ r ≡ relationIs variant ⌝ }
+    requires { ⌜ variant ≤ 3 ⌝ }
+    ensures { λ r. ⌜ relationIs variant ≡ some r ⌝ }
 {
     match variant {
         0 => Relation::Exact,
@@ -97,7 +103,7 @@ fn relation_of(variant: u32) -> Relation
 
 // Whether some prefix of a section stands to an operand as the relation says.
 fn some_prefix(section: &[u8], relation: Relation, operand: Network) -> bool
-    ensures { λ r. ⌜ r ≡ somePrefix relation operand (networksOf (now (section .entry))) ⌝ }
+    ensures { λ r. ⌜ r ≡ somePrefix relation (networkIn operand) (networksOf (now (section .entry))) ⌝ }
 {
     let mut at = 0;
     while at < section.len() {
@@ -113,22 +119,28 @@ fn some_prefix(section: &[u8], relation: Relation, operand: Network) -> bool
     false
 }
 
-// Whether some prefix of the operand's side does: B is 0 for either, 1 for announced, else withdrawn.
+// Whether some prefix of the operand's side does: B is 0 for either, 1 for announced, 2 for withdrawn.
 fn has_prefix(f: Fields, record: &[u8], parts: Parts) -> bool
-    ensures { λ r. ⌜ r ≡ somePrefix (relationIs (f .variant)) (operandOf f) (prefixesOn (sideIs (f .b)) (messageAt (now («record» .entry)) parts)) ⌝ }
+    ensures { λ r. ⌜ r ≡ networkTest f (messageAt (now («record» .entry)) parts) ⌝ }
 {
+    if program::LAST_RELATION < f.variant {
+        return false;
+    }
     let relation = relation_of(f.variant);
     let operand = Network {
         address: f.a,
         len: f.count,
     };
-    let announced = part_of(record, parts.announced);
-    let withdrawn = part_of(record, parts.withdrawn);
+    let announced = message::part_of(record, parts.announced);
+    let withdrawn = message::part_of(record, parts.withdrawn);
     if f.b == 1 {
         return some_prefix(announced, relation, operand);
     }
-    if f.b != 0 {
+    if f.b == 2 {
         return some_prefix(withdrawn, relation, operand);
+    }
+    if f.b != 0 {
+        return false;
     }
     if some_prefix(announced, relation, operand) {
         return true;
@@ -136,27 +148,10 @@ fn has_prefix(f: Fields, record: &[u8], parts: Parts) -> bool
     some_prefix(withdrawn, relation, operand)
 }
 
-// How many of the records at the front are items, up to a count.
-fn items_in(records: &[u8], count: usize) -> usize
-    ensures { λ r. ⌜ r ≡ length (itemsIn count (now (records .entry))) ⌝ }
-{
-    let mut n = 0;
-    while n < count {
-        let at = 16 * n;
-        if records.len() - at < 16 {
-            break;
-        }
-        let f = program::fields_at(records, at);
-        if f.kind != 4 {
-            break;
-        }
-        n += 1;
-    }
-    n
-}
-
+// The item at a place where one stands.
 fn item_at(records: &[u8], at: usize) -> Item
-    ensures { λ r. ⌜ r ≡ itemOf (fieldsIn (drop at (now (records .entry)))) ⌝ }
+    requires { ⌜ isItem (fieldsIn (drop at (now records))) ≡ true ⌝ }
+    ensures { λ r. ⌜ decode (drop at (now (records .entry))) ≡ some (item r) ⌝ }
 {
     let f = program::fields_at(records, at);
     if f.variant == 0 {
@@ -188,21 +183,23 @@ fn matches_here(
     from: Cursor,
     width: Width,
 ) -> bool
-    requires { ⌜ length (itemsIn count (now records)) ≡ count ⌝ }
+    requires { ⌜ itemsStand count (now records) ≡ true ⌝ }
     ensures { λ r. ⌜ r ≡ matchesAt end (itemsIn count (now (records .entry))) (widthBytes width) (now (path .entry)) from ⌝ }
 {
     let mut c = from;
-    let mut i = 0;
-    while i < count {
+    let mut at = 0;
+    let mut left = count;
+    while 0 < left {
         let next = aspath::member_at(path, c, width);
         let Next::Member(n, after) = next else {
             return false;
         };
-        if !aspath::takes(item_at(records, 16 * i), n) {
+        if !aspath::takes(item_at(records, at), n) {
             return false;
         }
         c = after;
-        i += 1;
+        at += program::RECORD_SIZE;
+        left -= 1;
     }
     if end {
         return at_end(path, c, width);
@@ -212,7 +209,7 @@ fn matches_here(
 
 // Whether they do from some cursor on.
 fn matches_some(records: &[u8], count: usize, end: bool, path: &[u8], width: Width) -> bool
-    requires { ⌜ length (itemsIn count (now records)) ≡ count ⌝ }
+    requires { ⌜ itemsStand count (now records) ≡ true ⌝ }
     ensures { λ r. ⌜ r ≡ matchesSome end (itemsIn count (now (records .entry))) (membersOf (widthBytes width) (now (path .entry))) ⌝ }
 {
     let mut c = Cursor { at: 0, left: 0 };
@@ -239,44 +236,58 @@ fn is_start(variant: u32) -> bool
     variant == 3
 }
 
-// Whether a path record's pattern matches a path; its items stand in the records after it.
-fn matches(f: Fields, records: &[u8], path: &[u8], width: Width) -> bool
-    ensures { λ r. ⌜ r ≡ matches (patternOf f (itemsIn (f .count) (now (records .entry)))) (membersOf (widthBytes width) (now (path .entry))) ⌝ }
+// Whether a variant has `$`.
+fn is_end(variant: u32) -> bool
+    ensures { λ r. ⌜ r ≡ isEnd variant ⌝ }
 {
-    let count = items_in(records, f.count as usize);
-    let end = 2 <= f.variant;
+    2 <= variant
+}
+
+// Whether a path record's pattern matches a path; its items are the records behind it.
+fn matches(f: Fields, behind: &[u8], path: &[u8], width: Width) -> bool
+    ensures { λ r. ⌜ r ≡ pathMatches f (now (behind .entry)) (membersOf (widthBytes width) (now (path .entry))) ⌝ }
+{
+    if program::LAST_ENDS < f.variant {
+        return false;
+    }
+    if !program::follows(f, behind) {
+        return false;
+    }
+    let count = program::following(f) as usize;
+    let end = is_end(f.variant);
     if is_start(f.variant) {
         let first = Cursor { at: 0, left: 0 };
-        return matches_here(records, count, end, path, first, width);
+        return matches_here(behind, count, end, path, first, width);
     }
-    matches_some(records, count, end, path, width)
+    matches_some(behind, count, end, path, width)
 }
 
 // Whether a test of the path is true of one.
-fn true_of_path(f: Fields, records: &[u8], path: &[u8], width: Width) -> bool
-    ensures { λ r. ⌜ r ≡ pathTest f (itemsIn (f .count) (now (records .entry))) (membersOf (widthBytes width) (now (path .entry))) ⌝ }
+fn true_of_path(f: Fields, behind: &[u8], path: &[u8], width: Width) -> bool
+    ensures { λ r. ⌜ r ≡ pathTest f (now (behind .entry)) (membersOf (widthBytes width) (now (path .entry))) ⌝ }
 {
-    if f.kind == 3 {
-        return matches(f, records, path, width);
+    if f.kind == program::PATH {
+        return matches(f, behind, path, width);
     }
-    if f.kind == 6 {
+    if f.kind == program::LOOPS {
         return aspath::loops(path, width);
     }
-    if f.kind == 7 {
+    if f.kind == program::BOGON {
         return aspath::has_bogon(path, width);
     }
     false
 }
 
 // Whether it is true of the AS_PATH of a section: without one it is false.
-fn true_of_section(f: Fields, records: &[u8], section: &[u8], width: Width) -> bool
-    ensures { λ r. ⌜ r ≡ onSegments (firstOf askPath (attributesOf (widthBytes width) (now (section .entry)))) (pathTest f (itemsIn (f .count) (now (records .entry)))) ⌝ }
+fn true_of_section(f: Fields, behind: &[u8], section: &[u8], width: Width) -> bool
+    ensures { λ r. ⌜ r ≡ ifAny (firstOf askPath (attributesOf (widthBytes width) (now (section .entry))))
+        (λ segments. pathTest f (now (behind .entry)) (members segments)) ⌝ }
 {
-    let found = attributes::find(section, 2);
+    let found = attributes::find(section, attributes::AS_PATH);
     match found {
         Found::At { start, len } => true_of_path(
             f,
-            records,
+            behind,
             octets::part(section, start, len),
             width,
         ),
@@ -290,26 +301,26 @@ pub fn holds(program: &[u8], at: usize, record: &[u8], parts: Parts) -> bool
     ensures { λ r. ⌜ r ≡ truthAt (messageAt (now («record» .entry)) parts) (now (program .entry)) at ⌝ }
 {
     let f = program::fields_at(program, at);
-    if f.kind == 1 {
-        return parts.kind == f.a;
+    if f.kind == program::TYPE {
+        return parts.code == f.a;
     }
-    if f.kind == 5 {
+    if f.kind == program::PEER {
         return same_peer(f, parts.address, parts.peer);
     }
-    if f.kind == 9 {
+    if f.kind == program::TIME {
         return in_time(f, parts.seconds);
     }
-    if parts.kind != 2 {
+    if parts.code != message::UPDATE {
         return false;
     }
-    if f.kind == 8 {
+    if f.kind == program::NETWORK {
         return has_prefix(f, record, parts);
     }
-    let section = part_of(record, parts.attributes);
-    if f.kind == 2 {
+    let section = message::part_of(record, parts.attributes);
+    if f.kind == program::ATTRIBUTE {
         return has_code(section, f.a);
     }
-    let records = octets::rest(octets::rest(program, at), 16);
+    let behind = octets::rest(octets::rest(program, at), program::RECORD_SIZE);
     let width = parts.width;
-    true_of_section(f, records, section, width)
+    true_of_section(f, behind, section, width)
 }

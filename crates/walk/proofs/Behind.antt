@@ -7,8 +7,7 @@ use mathlib.Core.Path.{_≡_, refl, ap, _∙_}
 use mathlib.Core.List.{List, _++_}
 use lib.ListN.{length, length-append}
 use lib.Seq.{drop-append-add}
-use Rattle.octets.specs.Header.{headerSize}
-use Rattle.octets.specs.Numbers.{numberAt}
+use Rattle.header.specs.Header.{headerSize, lengthAt}
 use Rattle.octets.proofs.Numbers.{number-after}
 use Rattle.walk.specs.declared.Step.{Step}
 use Rattle.walk.specs.declared.Step.the-variants.{Record, Done, Cut}
@@ -29,7 +28,7 @@ module _ (front s : List ℕ) where
   record-behind (Cut left) = refl
 
   pub step-behind : (at : ℕ) → stepAt (front ++ s) (length front + at) ≡ further (length front) (stepAt s at)
-  step-behind at = go (decLe (length s) at) (decLe headerSize (length s - at)) (decLe (headerSize + numberAt s (at + 8) 4) (length s - at))
+  step-behind at = go (decLe (length s) at) (decLe headerSize (length s - at)) (decLe (headerSize + lengthAt s at) (length s - at))
     where
       place : ℕ
       place = length front + at
@@ -37,10 +36,10 @@ module _ (front s : List ℕ) where
       left : length (front ++ s) - place ≡ length s - at
       left = omega (arith, length-append front s)
 
-      body : numberAt (front ++ s) (place + 8) 4 ≡ numberAt s (at + 8) 4
+      body : lengthAt (front ++ s) place ≡ lengthAt s at
       body = rw add-assoc (number-after front s (at + 8) 4)
 
-      go : Dec (length s ≤ at) → Dec (headerSize ≤ length s - at) → Dec (headerSize + numberAt s (at + 8) 4 ≤ length s - at)
+      go : Dec (length s ≤ at) → Dec (headerSize ≤ length s - at) → Dec (headerSize + lengthAt s at ≤ length s - at)
           → stepAt (front ++ s) place ≡ further (length front) (stepAt s at)
       go (yes i) d f = rw (step-past s at i) (step-past (front ++ s) place (omega (arith, length-append front s)))
       go (no i) (no j) f =

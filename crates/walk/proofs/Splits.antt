@@ -7,7 +7,7 @@ use mathlib.Core.Path.{_≡_, refl, sym, ap, _∙_}
 use mathlib.Core.List.{List, [], _∷_, _++_, append-assoc}
 use lib.ListN.{length, take, drop, length-append, length-drop, take-append-drop}
 use lib.Seq.{length-take-le, take-at, drop-at}
-use Rattle.octets.specs.Header.{headerSize, lengthField}
+use Rattle.header.specs.Header.{headerSize, lengthField}
 use Rattle.octets.specs.Rows.{Joined, none, more}
 use Rattle.octets.proofs.Numbers.{number-front, number-take}
 use Rattle.walk.specs.Split.{IsRecord, Rest, nothing, short, overrun, Splits}

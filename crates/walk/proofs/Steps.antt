@@ -8,8 +8,7 @@ use mathlib.Core.List.{List, [], _∷_, _++_}
 use lib.ListN.{length, length-append}
 use lib.Seq.{take-append-seam, drop-append-seam}
 use borrow.Author.Tests.{le-leb, lt-leb, le-ltb, lt-ltb}
-use Rattle.octets.specs.Header.{headerSize}
-use Rattle.octets.specs.Numbers.{numberAt}
+use Rattle.header.specs.Header.{headerSize, lengthAt}
 use Rattle.octets.proofs.Numbers.{number-front, number-after}
 use Rattle.walk.specs.declared.Step.{Step}
 use Rattle.walk.specs.declared.Step.the-variants.{Record, Done, Cut}
@@ -30,28 +29,28 @@ step-short s at h k = simp (lt-leb _ _ h, lt-ltb _ _ k)
 
 -- too few bytes are left for the body that the header announces
 pub step-overrun : (s : List ℕ) (at : ℕ)
-    → headerSize ≤ length s - at → length s - at < headerSize + numberAt s (at + 8) 4 → stepAt s at ≡ Cut (length s - at)
+    → headerSize ≤ length s - at → length s - at < headerSize + lengthAt s at → stepAt s at ≡ Cut (length s - at)
 unfolding stepAt
 step-overrun s at h k =
     let i : at < length s = omega arith in
-    let j : length s - at - headerSize < numberAt s (at + 8) 4 = omega arith in
+    let j : length s - at - headerSize < lengthAt s at = omega arith in
     simp (lt-leb _ _ i, le-ltb _ _ h, lt-ltb _ _ j)
 
 -- a whole record is left
 pub step-whole : (s : List ℕ) (at : ℕ)
-    → headerSize + numberAt s (at + 8) 4 ≤ length s - at → stepAt s at ≡ Record at (headerSize + numberAt s (at + 8) 4)
+    → headerSize + lengthAt s at ≤ length s - at → stepAt s at ≡ Record at (headerSize + lengthAt s at)
 unfolding stepAt
 step-whole s at h =
     let i : at < length s = omega arith in
     let j : headerSize ≤ length s - at = omega arith in
-    let k : numberAt s (at + 8) 4 ≤ length s - at - headerSize = omega arith in
+    let k : lengthAt s at ≤ length s - at - headerSize = omega arith in
     simp (lt-leb _ _ i, le-ltb _ _ j, le-ltb _ _ k)
 
 -- a step from below a bound that the bytes keep goes on below it
 pub place-below : (s : List ℕ) (at n : ℕ) → length s < n → at < n → placeAfter (stepAt s at) at < n
-place-below s at n h k = go (decLe (length s) at) (decLe headerSize (length s - at)) (decLe (headerSize + numberAt s (at + 8) 4) (length s - at))
+place-below s at n h k = go (decLe (length s) at) (decLe headerSize (length s - at)) (decLe (headerSize + lengthAt s at) (length s - at))
   where
-    go : Dec (length s ≤ at) → Dec (headerSize ≤ length s - at) → Dec (headerSize + numberAt s (at + 8) 4 ≤ length s - at) → placeAfter (stepAt s at) at < n
+    go : Dec (length s ≤ at) → Dec (headerSize ≤ length s - at) → Dec (headerSize + lengthAt s at ≤ length s - at) → placeAfter (stepAt s at) at < n
     go (yes i) d f = rw (step-past s at i) k
     go (no i) (no j) f = rw (step-short s at (lt-of-not-le i) (lt-of-not-le j)) k
     go (no i) (yes j) (no l) = rw (step-overrun s at j (lt-of-not-le l)) k
@@ -74,7 +73,7 @@ module _ (before : List ℕ) where
       → stepAt (before ++ (r ++ after)) (length before) ≡ Record (length before) (length r)
   step-stands {r} w after =
       let s : List ℕ = before ++ (r ++ after) in
-      let e : headerSize + numberAt s (length before + 8) 4 ≡ length r =
+      let e : headerSize + lengthAt s (length before) ≡ length r =
       ap (λ (n : ℕ). headerSize + n) (number-after before (r ++ after) 8 4 ∙ number-front r after 8 4 (omega (arith, w .headed))) ∙ sym (w .sized) in
       step-whole s (length before) (omega (arith, left (r ++ after), length-append r after)) ∙ ap (Record (length before)) e
 

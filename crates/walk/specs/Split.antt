@@ -3,7 +3,7 @@ use Prim.Native.Nat.{ℕ, zero, suc, _+_, _≤_, _<_}
 use mathlib.Core.Path.{_≡_}
 use mathlib.Core.List.{List, [], _∷_, _++_}
 use lib.ListN.{length}
-use Rattle.octets.specs.Header.{headerSize, lengthField}
+use Rattle.header.specs.Header.{headerSize, lengthField}
 use Rattle.octets.specs.Rows.{Joined}
 
 -- these bytes are a record, its size that of its header plus its length field

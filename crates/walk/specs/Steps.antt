@@ -4,7 +4,7 @@ use mathlib.Core.List.{List, [], _∷_}
 use lib.ListN.{length}
 use lib.Dec.{leb, ltb}
 use Rattle.octets.specs.Choice.{pick}
-use Rattle.octets.specs.Header.{headerSize, lengthAt}
+use Rattle.header.specs.Header.{headerSize, lengthAt}
 use Rattle.octets.specs.Parts.{partAt}
 use Rattle.walk.specs.declared.Step.{Step}
 use Rattle.walk.specs.declared.Step.the-variants.{Record, Done, Cut}

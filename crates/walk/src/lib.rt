@@ -27,16 +27,16 @@ pub fn step_at(bytes: &[u8], at: usize) -> Step
         return Step::Done;
     }
     let left = bytes.len() - at;
-    if left < 12 {
+    if left < header::SIZE {
         return Step::Cut { left };
     }
-    let body = octets::number(bytes, at + 8, 4) as usize;
-    if left - 12 < body {
+    let body = octets::number(bytes, at + header::LENGTH_AT, header::LENGTH_SIZE) as usize;
+    if left - header::SIZE < body {
         return Step::Cut { left };
     }
     Step::Record {
         start: at,
-        len: 12 + body,
+        len: header::SIZE + body,
     }
 }
 

@@ -196,11 +196,12 @@ fn leading_zeros(network: &str) -> Option<bool> {
 }
 
 fn bogon_table(aspath: &str) -> Option<bool> {
-    let (rows, _) = behind(aspath, "const BOGONS: [Range; 9] = [")?.split_once(']')?;
+    let (rows, _) = behind(aspath, "const BOGONS: [Range; BOGON_RANGES] = [")?.split_once(']')?;
     let (_, range, _) = braced(behind(aspath, "struct Range")?)?;
     let (_, test) = function(aspath, "bogon")?;
     Some(
-        count(rows, "Range { low:") == 9
+        has(aspath, "const BOGON_RANGES: usize = 9;")
+            && count(rows, "Range { low:") == 9
             && count(rows, ", high:") == 9
             && has(range, "low: u32")
             && has(range, "high: u32")

@@ -4,13 +4,14 @@ use native.Mathlib.Omega.{arith}
 use mathlib.Core.Path.{_≡_, refl, sym, _∙_}
 use mathlib.Core.Logic.{⊎-elim, inl, inr}
 use lib.ListN.{drop}
-use Rattle.aspath.specs.Bogons.{bogons, inSome, isBogon}
+use Rattle.octets.specs.Lists.{somePasses}
+use Rattle.aspath.specs.Bogons.{bogons, inRange, isBogon}
 use Rattle.aspath.proofs.Ranges.{hit, miss}
 use Rattle.aspath.proofs.bogon.Statement.{statement}
 use Rattle.aspath.proofs.bogon.Tie as tie
 
 abbrev Inv-loop : tie.InvT-loop
-Inv-loop n i₀ i = (i ≤ 9) × (inSome n (drop i bogons) ≡ isBogon n)
+Inv-loop n i₀ i = (i ≤ 9) × (somePasses (inRange n) (drop i bogons) ≡ isBogon n)
 
 abbrev μ-loop : tie.MeasureT-loop
 μ-loop n i₀ i = 9 - i
@@ -42,7 +43,7 @@ loop-again c = let l = c .before .before .before .before .loop in
     (omega arith, sym (miss _ bogons (l .i) _ (omega arith) (⊎-elim (λ w. inr (w .2 .left)) (λ w. inl (w .left)) (c .if1 .came))) ∙ l .inv .1)
 
 returns-2 : tie.Need-returns-2 Inv-loop μ-loop
-unfolding bogons inSome
+unfolding bogons somePasses
 returns-2 c = let l = c .before .loop in
     let e : l .i ≡ 9 = omega arith in
     sym (sym (l .inv .1) ∙ rw e refl)

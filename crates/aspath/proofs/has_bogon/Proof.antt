@@ -6,7 +6,7 @@ use lib.ListN.{length}
 use denote.Ref.{now}
 use borrow.Author.Needs.{needs}
 use Rattle.aspath.specs.declared.Cursor.{Cursor}
-use Rattle.aspath.specs.Members.{Member}
+use Rattle.aspath.specs.Members.{Member, memberOf}
 use Rattle.aspath.specs.Wire.{membersOf}
 use Rattle.aspath.specs.Bogons.{someBogon}
 use Rattle.aspath.specs.Cursors.{remaining}
@@ -26,7 +26,7 @@ from b = remaining (b .before .width-bytes .result) (now (b .before .before .bef
 
 -- the members from the cursor on are n and those after it
 here : (k : tie.After-here Inv-loop μ-loop) → let b = k .before .before .before in
-    from b (b .loop .c) ≡ k .here .given .0 .0 ∷ from b (k .here .given .0 .1 .0)
+    from b (b .loop .c) ≡ memberOf (k .here .given .0 .0) ∷ from b (k .here .given .0 .1 .0)
 here k = member-view _ _ _ (sym (k .before .before .next-member .ensures) ∙ k .here .given .1)
 
 width-bytes-requires : tie.Need-width-bytes-requires Inv-loop μ-loop

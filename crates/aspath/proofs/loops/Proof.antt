@@ -7,11 +7,12 @@ use lib.ListN.{length}
 use denote.Ref.{now}
 use borrow.Author.Needs.{needs}
 use Rattle.aspath.specs.declared.Cursor.{Cursor}
-use Rattle.aspath.specs.Members.{Member}
+use Rattle.aspath.specs.Members.{Member, memberOf}
 use Rattle.aspath.specs.Wire.{membersOf}
 use Rattle.aspath.specs.Loops.{returnsIn, hasLoop}
 use Rattle.aspath.specs.Cursors.{remaining}
 use Rattle.aspath.proofs.Cursors.{member-view, end-view, whole-path}
+use Rattle.aspath.proofs.MeaningMembers.{same-held, other-held, alone-held}
 use Rattle.aspath.proofs.Returns.{returns-end, returns-other, returns-found, returns-same, loop-none, loop-here, loop-later}
 use Rattle.aspath.proofs.loops.Statement.{statement}
 use Rattle.aspath.proofs.loops.Tie as tie
@@ -33,12 +34,12 @@ from b = remaining (b .before .width-bytes .result) (now (b .before .before .bef
 
 -- the members from p on are n and those after it
 here : (k : tie.After-here Inv-loop μ-loop Inv-search μ-search) → let b = k .before .before .before in
-    from b (b .search .p) ≡ k .here .given .0 .0 ∷ from b (k .here .given .0 .1 .0)
+    from b (b .search .p) ≡ memberOf (k .here .given .0 .0) ∷ from b (k .here .given .0 .1 .0)
 here k = member-view _ _ _ (sym (k .before .before .next-member .ensures) ∙ k .here .given .1)
 
 -- the members from q on are m and those after it
 there : (j : tie.After-there Inv-loop μ-loop Inv-search μ-search) → let b = j .before .before .before .before .before .before .before .before in
-    from b (j .before .before .before .loop .q) ≡ j .there .given .0 .0 ∷ from b (j .there .given .0 .1 .0)
+    from b (j .before .before .before .loop .q) ≡ memberOf (j .there .given .0 .0) ∷ from b (j .there .given .0 .1 .0)
 there j = member-view _ _ _ (sym (j .before .before .next-member2 .ensures) ∙ j .there .given .1)
 
 width-bytes-requires : tie.Need-width-bytes-requires Inv-loop μ-loop Inv-search μ-search
@@ -79,7 +80,7 @@ loop-less c = omega (arith, ap length (there (c .before .before)))
 loop-again : tie.Need-loop-again Inv-loop μ-loop Inv-search μ-search
 loop-again c = let j = c .before .before in
     let r = j .before .before .before .loop in
-    sym (returns-other _ _ _ (r .other) (c .if1 .taken)) ∙ ap (returnsIn (r .other) _) (sym (there j)) ∙ r .inv
+    sym (returns-other _ _ _ (r .other) (other-held _ (c .if1 .taken))) ∙ ap (returnsIn (r .other) _) (sym (there j)) ∙ r .inv
 
 loop-less-2 : tie.Need-loop-less-2 Inv-loop μ-loop Inv-search μ-search
 loop-less-2 c = omega (arith, ap length (there (c .before .before .before)))
@@ -87,7 +88,7 @@ loop-less-2 c = omega (arith, ap length (there (c .before .before .before)))
 loop-again-2 : tie.Need-loop-again-2 Inv-loop μ-loop Inv-search μ-search
 loop-again-2 c = let j = c .before .before .before in
     let r = j .before .before .before .loop in
-    rw (c .if2 .left) (sym (returns-same _ _ _ (c .before .if1 .left)) ∙ ap (returnsIn false _) (sym (there j)) ∙ rw (c .if2 .left) at (r .inv))
+    rw (c .if2 .left) (sym (returns-same _ _ _ (same-held _ (c .before .if1 .left))) ∙ ap (returnsIn false _) (sym (there j)) ∙ rw (c .if2 .left) at (r .inv))
 
 search-less : tie.Need-search-less Inv-loop μ-loop Inv-search μ-search
 search-less c = omega (arith, ap length (here (c .before .before .before .before .before)))
@@ -99,7 +100,7 @@ search-again c = let r = c .before .before .before .loop in
     let b = k .before .before .before in
     let e = end-view _ _ (r .q) (sym (c .before .before .next-member2 .ensures) ∙ c .enum-told2 .given .1) in
     let f = sym (r .inv) ∙ ap (returnsIn (r .other) n) e ∙ returns-end n (r .other) in
-    sym (loop-later n _ f) ∙ ap hasLoop (sym (here k)) ∙ b .search .inv
+    sym (loop-later (memberOf n) _ (alone-held n _ ∙ f)) ∙ ap hasLoop (sym (here k)) ∙ b .search .inv
 
 returns-2 : tie.Need-returns-2 Inv-loop μ-loop Inv-search μ-search
 returns-2 c = let j = c .before .before .before in
@@ -107,8 +108,8 @@ returns-2 c = let j = c .before .before .before in
     let k = j .before .before .before .before .before in
     let n = k .here .given .0 .0 in
     let b = k .before .before .before in
-    let f = sym (rw (c .if2 .taken) at (r .inv)) ∙ ap (returnsIn true n) (there j) ∙ returns-found n _ _ (c .before .if1 .left) in
-    rw (← b .before .width-bytes .ensures .0) (sym (sym (b .search .inv) ∙ ap hasLoop (here k) ∙ loop-here n _ f))
+    let f = sym (rw (c .if2 .taken) at (r .inv)) ∙ ap (returnsIn true n) (there j) ∙ returns-found n _ _ (same-held _ (c .before .if1 .left)) in
+    rw (← b .before .width-bytes .ensures .0) (sym (sym (b .search .inv) ∙ ap hasLoop (here k) ∙ loop-here (memberOf n) _ (alone-held n _ ∙ f)))
 
 pub loops-spec : {M : Type 1} → statement M
 loops-spec =

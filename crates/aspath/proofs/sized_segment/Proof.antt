@@ -26,11 +26,11 @@ sub-if2 c = search needs
 returns-2 : tie.Need-returns-2
 returns-2 c = none (c .before .before) (λ t. omega (arith, t .fits))
 
-shared-slice-read-kind : tie.Need-shared-slice-read-kind
-shared-slice-read-kind c = search needs
+shared-slice-read-of-type : tie.Need-shared-slice-read-of-type
+shared-slice-read-of-type c = search needs
 
 returns-3 : tie.Need-returns-3
-returns-3 c = none (c .before .before .before .before .before) (λ t. ⊎-elim (c .before .if3 .taken) (c .if4 .taken) (t .kind))
+returns-3 c = none (c .before .before .before .before .before) (λ t. ⊎-elim (c .before .if3 .taken) (c .if4 .taken) (t .type))
 
 add-count : tie.Need-add-count
 add-count c = search needs
@@ -68,7 +68,7 @@ returns-6 c = let a = c .before .before .before .before .before .before .before 
     sym
     (stands-size (a .width) (now (a .s)) (a .at)
     (record {
-      kind = ⊎-elim (λ w. inr (w .1 .left)) (λ w. inl (w .left)) (c .before .before .before .if3 .came);
+      type = ⊎-elim (λ w. inr (w .1 .left)) (λ w. inl (w .left)) (c .before .before .before .if3 .came);
       some = omega arith;
       fits = omega arith;
     }))
@@ -80,7 +80,7 @@ sized-segment-spec =
     returns
     sub-if2
     returns-2
-    shared-slice-read-kind
+    shared-slice-read-of-type
     returns-3
     add-count
     shared-slice-read-count

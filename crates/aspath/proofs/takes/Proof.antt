@@ -1,6 +1,7 @@
 -- `aspath::takes` meets its contract: an item each. Assumes nothing.
 use mathlib.Core.Path.{refl}
 use borrow.Author.Needs.{needs}
+use Rattle.aspath.specs.Members.{holds}
 use Rattle.aspath.proofs.takes.Statement.{statement}
 use Rattle.aspath.proofs.takes.Tie as tie
 
@@ -14,9 +15,11 @@ enum-told : tie.Need-enum-told
 enum-told c = search needs
 
 returns : tie.Need-returns
+unfolding holds
 returns c = rw (c .before .item .given .1) refl
 
 returns-2 : tie.Need-returns-2
+unfolding holds
 returns-2 c = rw (c .before .item2 .given .1) refl
 
 returns-3 : tie.Need-returns-3

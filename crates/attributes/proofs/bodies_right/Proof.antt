@@ -1,13 +1,12 @@
 -- `attributes::bodies_right` meets its contract. The loop's invariant: every body is right just where every one of the rest is. Assumes nothing.
-use Prim.Native.Nat.{_+_, _-_, _≤_}
+use Prim.Native.Nat.{_-_, _≤_}
 use native.Mathlib.Omega.{arith}
 use mathlib.Core.Path.{_≡_, refl, sym, _∙_}
-use lib.ListN.{length, getD, drop, length-drop}
+use lib.ListN.{length, drop, length-drop}
 use borrow.Author.Needs.{needs}
 use borrow.Author.Tests.{not-true, not-false}
 use denote.Ref.{now}
 use Rattle.aspath.specs.Wire.{widthBytes}
-use Rattle.octets.proofs.Numbers.{number-one}
 use Rattle.attributes.specs.Wire.{rawsOf}
 use Rattle.attributes.specs.Bodies.{allRight}
 use Rattle.attributes.proofs.Sizes.{attribute-sizes, Step, step, body-part}
@@ -26,11 +25,6 @@ abbrev μ-loop : tie.MeasureT-loop
 stands : (c : tie.Else1 Inv-loop μ-loop) → Step (now (c .before .before .before .before .before .args .s)) (c .before .before .before .loop .at) (c .before .attribute-size .result)
 stands c = step _ _ _ (c .before .attribute-size .ensures) (c .if1 .left)
 
--- its code
-code-is : (c : tie.After-number Inv-loop μ-loop)
-    → getD (drop (c .before .before .before .before .loop .at) (now (c .before .before .before .before .before .before .args .s))) 1 0 ≡ c .number .result
-code-is c = stands (c .before) .code ∙ sym (c .number .ensures ∙ number-one _ (c .before .before .before .before .loop .at + 1))
-
 loop-holds : tie.Need-loop-holds Inv-loop μ-loop
 loop-holds c = (omega arith, refl)
 
@@ -43,11 +37,13 @@ returns c =
     let l = c .before .before .before .loop in
     sym (right-end (drop (l .at) (now (a .s))) (widthBytes (a .width)) (sym (c .before .attribute-size .ensures) ∙ c .if1 .taken)) ∙ l .inv .1
 
-add-number : tie.Need-add-number Inv-loop μ-loop
-add-number c = search needs
+add-code : tie.Need-add-code Inv-loop μ-loop
+add-code c = search needs
 
-number-requires : tie.Need-number-requires Inv-loop μ-loop
-number-requires c κs = search needs
+shared-slice-read-code : tie.Need-shared-slice-read-code Inv-loop μ-loop
+shared-slice-read-code c =
+    let x = stands (c .before) in
+    omega arith
 
 header-size-requires : tie.Need-header-size-requires Inv-loop μ-loop
 header-size-requires c κs = search needs
@@ -84,7 +80,7 @@ returns-2 : tie.Need-returns-2 Inv-loop μ-loop
 returns-2 c =
     let x = stands (c .before .before .before .before .before) in
     let p = body-part x _ (c .before .before .before .header-size .ensures .0) in
-    sym (right-wrong _ (x .some) (code-is (c .before .before .before .before)) _ p (sym (c .before .body-right .ensures) ∙ not-true _ (c .if2 .taken))) ∙ c .before .before .before .before .before .before .before .before .loop .inv .1
+    sym (right-wrong _ (x .some) (x .code) _ p (sym (c .before .body-right .ensures) ∙ not-true _ (c .if2 .taken))) ∙ c .before .before .before .before .before .before .before .before .loop .inv .1
 
 loop-less : tie.Need-loop-less Inv-loop μ-loop
 loop-less c =
@@ -95,7 +91,7 @@ loop-again : tie.Need-loop-again Inv-loop μ-loop
 loop-again c =
     let x = stands (c .before .before .before .before .before) in
     let p = body-part x _ (c .before .before .before .header-size .ensures .0) in
-    (x .fits, rw (← x .next) (sym (right-next _ (x .some) (code-is (c .before .before .before .before)) _ p (sym (c .before .body-right .ensures) ∙ not-false _ (c .if2 .left))) ∙ c .before .before .before .before .before .before .before .before .loop .inv .1))
+    (x .fits, rw (← x .next) (sym (right-next _ (x .some) (x .code) _ p (sym (c .before .body-right .ensures) ∙ not-false _ (c .if2 .left))) ∙ c .before .before .before .before .before .before .before .before .loop .inv .1))
 
 returns-3 : tie.Need-returns-3 Inv-loop μ-loop
 returns-3 c =
@@ -113,8 +109,8 @@ bodies-right-spec =
     loop-holds
     attribute-size-requires
     returns
-    add-number
-    number-requires
+    add-code
+    shared-slice-read-code
     header-size-requires
     add-start
     add-end

@@ -1,7 +1,9 @@
 -- `attributes::body_right` meets its contract: an arm for each code that is looked at. Assumes nothing.
 use mathlib.Core.Path.{refl}
+use native.Mathlib.Omega.{arith}
 use borrow.Author.Needs.{needs}
 use borrow.Author.Tests.{eq-eqb, ne-eqb}
+use Rattle.attributes.specs.Attribute.{originCode, asPathCode, nextHopCode, atomicAggregateCode}
 use Rattle.attributes.specs.Bodies.{bodyRight}
 use Rattle.attributes.proofs.body_right.Statement.{statement}
 use Rattle.attributes.proofs.body_right.Tie as tie
@@ -12,6 +14,9 @@ returns c = rw (c .before .match .keys1) (simp (ne-eqb _ _ (c .if1 .taken)))
 
 shared-slice-read-result : tie.Need-shared-slice-read-result
 shared-slice-read-result c = search needs
+
+cast-result : tie.Need-cast-result
+cast-result c = omega (arith, c .shared-slice-known2 .given 0)
 
 well-formed-requires : tie.Need-well-formed-requires
 well-formed-requires c κs = search needs
@@ -36,7 +41,7 @@ returns-6 : tie.Need-returns-6
 unfolding bodyRight
 returns-6 c =
     let n = c .match .rest in
-    simp (ne-eqb _ 1 (n .0 .0 .0 .1), ne-eqb _ 2 (n .0 .0 .1), ne-eqb _ 3 (n .0 .1), ne-eqb _ 6 (n .1))
+    simp (ne-eqb _ originCode (n .0 .0 .0 .1), ne-eqb _ asPathCode (n .0 .0 .1), ne-eqb _ nextHopCode (n .0 .1), ne-eqb _ atomicAggregateCode (n .1))
 
 pub body-right-spec : {M : Type 1} → statement M
 body-right-spec =
@@ -44,6 +49,7 @@ body-right-spec =
     (tie.spec
     returns
     shared-slice-read-result
+    cast-result
     well-formed-requires
     returns-2
     returns-3

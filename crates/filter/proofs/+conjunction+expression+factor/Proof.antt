@@ -10,7 +10,7 @@ use borrow.Fn.PlainCycle.{Measures, is, falls, and}
 use Rattle.program.specs.Readings.{and as and·op, or as or·op}
 use Rattle.program.proofs.put_record.Reads as put-record-reads
 use Rattle.token.specs.declared.Lexeme.{Lexeme}
-use Rattle.token.proofs.Nexts.{kind-token}
+use Rattle.token.proofs.Nexts.{sort-token}
 use Rattle.token.proofs.next.Reads as next-reads
 use Rattle.filter.specs.Parsing.{roleSaid, from}
 use Rattle.filter.specs.Answers.{a-group, a-bang}
@@ -19,13 +19,13 @@ use Rattle.filter.proofs.Parts.{read-ready, says-stopped}
 use Rattle.filter.proofs.Sides.{Sofar, sofar-first, sofar-length, sofar-last, sofar-more, first-stops, side-ready, side-fewer, more-stops}
 use Rattle.filter.proofs.Factors.{opens-deep, opened-stops, negation, group, group-stops}
 use Rattle.filter.proofs.conjunction.Reads as conjunction
-use Rattle.filter.proofs.conjunction.Kinds as conjunction-kinds
+use Rattle.filter.proofs.conjunction.Kinds as conjunction-sorts
 use Rattle.filter.proofs.+conjunction+expression+factor.Lts-conjunction as conjunction-lts
 use Rattle.filter.proofs.expression.Reads as expression
-use Rattle.filter.proofs.expression.Kinds as expression-kinds
+use Rattle.filter.proofs.expression.Kinds as expression-sorts
 use Rattle.filter.proofs.+conjunction+expression+factor.Lts-expression as expression-lts
 use Rattle.filter.proofs.factor.Reads as factor
-use Rattle.filter.proofs.factor.Kinds as factor-kinds
+use Rattle.filter.proofs.factor.Kinds as factor-sorts
 use Rattle.filter.proofs.+conjunction+expression+factor.Lts-factor as factor-lts
 use Rattle.filter.proofs.plain.Reads as plain-reads
 use Rattle.filter.proofs.role_of.Reads as role-of-reads
@@ -33,32 +33,32 @@ use Rattle.filter.proofs.test.Reads as test-reads
 use Rattle.filter.proofs.+conjunction+expression+factor.{statement}
 use Rattle.filter.proofs.+conjunction+expression+factor.Tie.{close}
 
-abbrev μ-conjunction : Measures 2 conjunction-kinds.ps ℕ
+abbrev μ-conjunction : Measures 2 conjunction-sorts.ps ℕ
 μ-conjunction κs a = 3 * length (from (a .0 .now) (a .1 .1 .0)) + 1
 
-abbrev μ-expression : Measures 2 expression-kinds.ps ℕ
+abbrev μ-expression : Measures 2 expression-sorts.ps ℕ
 μ-expression κs a = 3 * length (from (a .0 .now) (a .1 .1 .0)) + 2
 
-abbrev μ-factor : Measures 2 factor-kinds.ps ℕ
+abbrev μ-factor : Measures 2 factor-sorts.ps ℕ
 μ-factor κs a = 3 * length (from (a .0 .now) (a .1 .1 .0))
 
-abbrev conjunction-at : ℕ → In 2 conjunction-kinds.ps
-conjunction-at t = and 2 conjunction-kinds.ps (is 2 conjunction-kinds.ps μ-conjunction t) conjunction.Pre
+abbrev conjunction-at : ℕ → In 2 conjunction-sorts.ps
+conjunction-at t = and 2 conjunction-sorts.ps (is 2 conjunction-sorts.ps μ-conjunction t) conjunction.Pre
 
-abbrev conjunction-below : ℕ → In 2 conjunction-kinds.ps
-conjunction-below t = and 2 conjunction-kinds.ps (falls 2 conjunction-kinds.ps _<_ μ-conjunction t) conjunction.Pre
+abbrev conjunction-below : ℕ → In 2 conjunction-sorts.ps
+conjunction-below t = and 2 conjunction-sorts.ps (falls 2 conjunction-sorts.ps _<_ μ-conjunction t) conjunction.Pre
 
-abbrev expression-at : ℕ → In 2 expression-kinds.ps
-expression-at t = and 2 expression-kinds.ps (is 2 expression-kinds.ps μ-expression t) expression.Pre
+abbrev expression-at : ℕ → In 2 expression-sorts.ps
+expression-at t = and 2 expression-sorts.ps (is 2 expression-sorts.ps μ-expression t) expression.Pre
 
-abbrev expression-below : ℕ → In 2 expression-kinds.ps
-expression-below t = and 2 expression-kinds.ps (falls 2 expression-kinds.ps _<_ μ-expression t) expression.Pre
+abbrev expression-below : ℕ → In 2 expression-sorts.ps
+expression-below t = and 2 expression-sorts.ps (falls 2 expression-sorts.ps _<_ μ-expression t) expression.Pre
 
-abbrev factor-at : ℕ → In 2 factor-kinds.ps
-factor-at t = and 2 factor-kinds.ps (is 2 factor-kinds.ps μ-factor t) factor.Pre
+abbrev factor-at : ℕ → In 2 factor-sorts.ps
+factor-at t = and 2 factor-sorts.ps (is 2 factor-sorts.ps μ-factor t) factor.Pre
 
-abbrev factor-below : ℕ → In 2 factor-kinds.ps
-factor-below t = and 2 factor-kinds.ps (falls 2 factor-kinds.ps _<_ μ-factor t) factor.Pre
+abbrev factor-below : ℕ → In 2 factor-sorts.ps
+factor-below t = and 2 factor-sorts.ps (falls 2 factor-sorts.ps _<_ μ-factor t) factor.Pre
 
 abbrev conjunction-calls : ℕ → conjunction-lts.Claims
 conjunction-calls t = (factor-below t, factor.Post, role-of-reads.Asked, role-of-reads.Learnt, next-reads.Asked, next-reads.Learnt, plain-reads.Asked, plain-reads.Learnt, put-record-reads.Asked, put-record-reads.Learnt)
@@ -271,7 +271,7 @@ factor-enum-told : (t : ℕ) → factor-lts.Need-enum-told (factor-calls t) (fac
 factor-enum-told t c = search needs
 
 factor-returns : (t : ℕ) → factor-lts.Need-returns (factor-calls t) (factor-at t) factor.Post
-factor-returns t c = says-stopped refl (opens-deep (c .before .before .before .before .before .pre .1 .1) a-bang (kind-token _ (c .before .before .before .before .before .args .t) (c .before .enum-told .given .1)) (c .if1 .taken))
+factor-returns t c = says-stopped refl (opens-deep (c .before .before .before .before .before .pre .1 .1) a-bang (sort-token _ (c .before .before .before .before .before .args .t) (c .before .enum-told .given .1)) (c .if1 .taken))
 
 factor-add-factor : (t : ℕ) → factor-lts.Need-add-factor (factor-calls t) (factor-at t) factor.Post
 factor-add-factor t c = omega (arith, c .before .before .before .before .before .pre .1 .0)
@@ -281,7 +281,7 @@ factor-next-requires t c κs = search needs
 
 factor-factor-requires : (t : ℕ) → factor-lts.Need-factor-requires (factor-calls t) (factor-at t) factor.Post
 factor-factor-requires t c κs =
-    let token = (kind-token _ (c .before .before .before .before .before .before .before .args .t) (c .before .before .before .enum-told .given .1)) in
+    let token = (sort-token _ (c .before .before .before .before .before .before .before .args .t) (c .before .before .before .enum-told .given .1)) in
     (omega (arith, c .before .before .before .before .before .before .before .pre .0, next-fewer (c .before .before .before .before .before .before .before .pre .1 .1) token (c .before .next .ensures)), (omega (arith, c .before .before .if1 .left), next-ready (c .before .before .before .before .before .before .before .pre .1 .1) token (c .before .next .ensures)))
 
 factor-enum-known-r : (t : ℕ) → factor-lts.Need-enum-known-r (factor-calls t) (factor-at t) factor.Post
@@ -294,11 +294,11 @@ factor-same-length : (t : ℕ) → factor-lts.Need-same-length (factor-calls t) 
 factor-same-length t c = c .before .before .before .before .factor .kept .1 .1 .1 .0
 
 factor-returns-2 : (t : ℕ) → factor-lts.Need-returns-2 (factor-calls t) (factor-at t) factor.Post
-factor-returns-2 t c = opened-stops (c .before .before .before .before .before .before .before .before .before .before .before .before .pre .1 .1) a-bang (kind-token _ (c .before .before .before .before .before .before .before .before .before .before .before .before .args .t) (c .before .before .before .before .before .before .before .before .enum-told .given .1)) (c .before .before .before .before .before .before .before .if1 .left) (c .before .before .before .before .before .before .next .ensures) (c .enum-told2 .given .1) (c .before .before .before .before .factor .ensures)
+factor-returns-2 t c = opened-stops (c .before .before .before .before .before .before .before .before .before .before .before .before .pre .1 .1) a-bang (sort-token _ (c .before .before .before .before .before .before .before .before .before .before .before .before .args .t) (c .before .before .before .before .before .before .before .before .enum-told .given .1)) (c .before .before .before .before .before .before .before .if1 .left) (c .before .before .before .before .before .before .next .ensures) (c .enum-told2 .given .1) (c .before .before .before .before .factor .ensures)
 
 factor-mul-put-record : (t : ℕ) → factor-lts.Need-mul-put-record (factor-calls t) (factor-at t) factor.Post
 factor-mul-put-record t c =
-    let small = ready-small (read-ready (next-ready (c .before .before .before .before .before .before .before .before .before .before .before .before .before .before .pre .1 .1) (kind-token _ (c .before .before .before .before .before .before .before .before .before .before .before .before .before .before .args .t) (c .before .before .before .before .before .before .before .before .before .before .enum-told .given .1)) (c .before .before .before .before .before .before .before .before .next .ensures)) (c .before .before .before .before .before .before .factor .ensures .upto _ _ (c .before .before .r .given .1))) in
+    let small = ready-small (read-ready (next-ready (c .before .before .before .before .before .before .before .before .before .before .before .before .before .before .pre .1 .1) (sort-token _ (c .before .before .before .before .before .before .before .before .before .before .before .before .before .before .args .t) (c .before .before .before .before .before .before .before .before .before .before .enum-told .given .1)) (c .before .before .before .before .before .before .before .before .next .ensures)) (c .before .before .before .before .before .before .factor .ensures .upto _ _ (c .before .before .r .given .1))) in
     omega arith
 
 factor-plain-requires : (t : ℕ) → factor-lts.Need-plain-requires (factor-calls t) (factor-at t) factor.Post
@@ -309,14 +309,14 @@ factor-put-record-requires t c κs = search needs
 
 factor-add-t17 : (t : ℕ) → factor-lts.Need-add-t17 (factor-calls t) (factor-at t) factor.Post
 factor-add-t17 t c =
-    let small = ready-small (read-ready (next-ready (c .before .before .before .before .before .before .before .before .before .before .before .before .before .before .before .before .before .before .pre .1 .1) (kind-token _ (c .before .before .before .before .before .before .before .before .before .before .before .before .before .before .before .before .before .before .args .t) (c .before .before .before .before .before .before .before .before .before .before .before .before .before .before .enum-told .given .1)) (c .before .before .before .before .before .before .before .before .before .before .before .before .next .ensures)) (c .before .before .before .before .before .before .before .before .before .before .factor .ensures .upto _ _ (c .before .before .before .before .before .before .r .given .1))) in
+    let small = ready-small (read-ready (next-ready (c .before .before .before .before .before .before .before .before .before .before .before .before .before .before .before .before .before .before .pre .1 .1) (sort-token _ (c .before .before .before .before .before .before .before .before .before .before .before .before .before .before .before .before .before .before .args .t) (c .before .before .before .before .before .before .before .before .before .before .before .before .before .before .enum-told .given .1)) (c .before .before .before .before .before .before .before .before .before .before .before .before .next .ensures)) (c .before .before .before .before .before .before .before .before .before .before .factor .ensures .upto _ _ (c .before .before .before .before .before .before .r .given .1))) in
     omega arith
 
 factor-enum-told-3 : (t : ℕ) → factor-lts.Need-enum-told-3 (factor-calls t) (factor-at t) factor.Post
 factor-enum-told-3 t c = search needs
 
 factor-returns-3 : (t : ℕ) → factor-lts.Need-returns-3 (factor-calls t) (factor-at t) factor.Post
-factor-returns-3 t c = says-stopped refl (opens-deep (c .before .before .before .before .before .pre .1 .1) a-group (kind-token _ (c .before .before .before .before .before .args .t) (c .before .enum-told3 .given .1)) (c .if2 .taken))
+factor-returns-3 t c = says-stopped refl (opens-deep (c .before .before .before .before .before .pre .1 .1) a-group (sort-token _ (c .before .before .before .before .before .args .t) (c .before .enum-told3 .given .1)) (c .if2 .taken))
 
 factor-add-expression : (t : ℕ) → factor-lts.Need-add-expression (factor-calls t) (factor-at t) factor.Post
 factor-add-expression t c = omega (arith, c .before .before .before .before .before .pre .1 .0)
@@ -326,7 +326,7 @@ factor-next-requires-2 t c κs = search needs
 
 factor-expression-requires : (t : ℕ) → factor-lts.Need-expression-requires (factor-calls t) (factor-at t) factor.Post
 factor-expression-requires t c κs =
-    let token = (kind-token _ (c .before .before .before .before .before .before .before .args .t) (c .before .before .before .enum-told3 .given .1)) in
+    let token = (sort-token _ (c .before .before .before .before .before .before .before .args .t) (c .before .before .before .enum-told3 .given .1)) in
     (omega (arith, c .before .before .before .before .before .before .before .pre .0, next-fewer (c .before .before .before .before .before .before .before .pre .1 .1) token (c .before .next2 .ensures)), (omega (arith, c .before .before .if2 .left), next-ready (c .before .before .before .before .before .before .before .pre .1 .1) token (c .before .next2 .ensures)))
 
 factor-enum-known-r-2 : (t : ℕ) → factor-lts.Need-enum-known-r-2 (factor-calls t) (factor-at t) factor.Post
@@ -339,7 +339,7 @@ factor-same-length-2 : (t : ℕ) → factor-lts.Need-same-length-2 (factor-calls
 factor-same-length-2 t c = c .before .before .before .before .expression .kept .1 .1 .1 .0
 
 factor-returns-4 : (t : ℕ) → factor-lts.Need-returns-4 (factor-calls t) (factor-at t) factor.Post
-factor-returns-4 t c = opened-stops (c .before .before .before .before .before .before .before .before .before .before .before .before .pre .1 .1) a-group (kind-token _ (c .before .before .before .before .before .before .before .before .before .before .before .before .args .t) (c .before .before .before .before .before .before .before .before .enum-told3 .given .1)) (c .before .before .before .before .before .before .before .if2 .left) (c .before .before .before .before .before .before .next2 .ensures) (c .enum-told4 .given .1) (c .before .before .before .before .expression .ensures)
+factor-returns-4 t c = opened-stops (c .before .before .before .before .before .before .before .before .before .before .before .before .pre .1 .1) a-group (sort-token _ (c .before .before .before .before .before .before .before .before .before .before .before .before .args .t) (c .before .before .before .before .before .before .before .before .enum-told3 .given .1)) (c .before .before .before .before .before .before .before .if2 .left) (c .before .before .before .before .before .before .next2 .ensures) (c .enum-told4 .given .1) (c .before .before .before .before .expression .ensures)
 
 factor-enum-told-5 : (t : ℕ) → factor-lts.Need-enum-told-5 (factor-calls t) (factor-at t) factor.Post
 factor-enum-told-5 t c = search needs
@@ -349,27 +349,27 @@ factor-same-length-3 t c = c .before .before .before .before .before .before .ex
 
 factor-returns-5 : (t : ℕ) → factor-lts.Need-returns-5 (factor-calls t) (factor-at t) factor.Post
 factor-returns-5 t c =
-    group-stops (c .before .before .before .before .before .before .before .before .before .before .before .before .before .before .pre .1 .1) (kind-token _ (c .before .before .before .before .before .before .before .before .before .before .before .before .before .before .args .t) (c .before .before .before .before .before .before .before .before .before .before .enum-told3 .given .1)) (c .before .before .before .before .before .before .before .before .before .if2 .left) (c .before .before .before .before .before .before .before .before .next2 .ensures) (c .before .before .before .before .before .before .expression .ensures) (c .before .before .r2 .given .1) (0 ∷ 1 ∷ 3 ∷ 4 ∷ 5 ∷ 6 ∷ []) tt (c .match4 .keys2)
+    group-stops (c .before .before .before .before .before .before .before .before .before .before .before .before .before .before .pre .1 .1) (sort-token _ (c .before .before .before .before .before .before .before .before .before .before .before .before .before .before .args .t) (c .before .before .before .before .before .before .before .before .before .before .enum-told3 .given .1)) (c .before .before .before .before .before .before .before .before .before .if2 .left) (c .before .before .before .before .before .before .before .before .next2 .ensures) (c .before .before .before .before .before .before .expression .ensures) (c .before .before .r2 .given .1) (0 ∷ 1 ∷ 3 ∷ 4 ∷ 5 ∷ 6 ∷ []) tt (c .match4 .keys2)
 
 factor-next-requires-3 : (t : ℕ) → factor-lts.Need-next-requires-3 (factor-calls t) (factor-at t) factor.Post
 factor-next-requires-3 t c κs = search needs
 
 factor-test-requires : (t : ℕ) → factor-lts.Need-test-requires (factor-calls t) (factor-at t) factor.Post
-factor-test-requires t c κs = (c .before .before .before .before .pre .1 .1, no-level (c .before .before .before .before .args .t .kind) (c .before .match .keys3))
+factor-test-requires t c κs = (c .before .before .before .before .pre .1 .1, no-level (c .before .before .before .before .args .t .sort) (c .before .match .keys3))
 
 factor-same-length-4 : (t : ℕ) → factor-lts.Need-same-length-4 (factor-calls t) (factor-at t) factor.Post
 factor-same-length-4 t c = c .before .before .put-record .kept .0 ∙ c .before .before .before .before .before .before .before .before .before .before .factor .kept .1 .1 .1 .0
 
 factor-returns-6 : (t : ℕ) → factor-lts.Need-returns-6 (factor-calls t) (factor-at t) factor.Post
 factor-returns-6 t c =
-    negation (c .before .before .before .before .before .before .before .before .before .before .before .before .before .before .before .before .before .before .pre .1 .1) (kind-token _ (c .before .before .before .before .before .before .before .before .before .before .before .before .before .before .before .before .before .before .args .t) (c .before .before .before .before .before .before .before .before .before .before .before .before .before .before .enum-told .given .1)) (c .before .before .before .before .before .before .before .before .before .before .before .before .before .if1 .left) (c .before .before .before .before .before .before .before .before .before .before .before .before .next .ensures) (c .before .before .before .before .before .before .before .before .before .before .factor .ensures) (c .before .before .before .before .before .before .r .given .1) (c .before .before .before .plain .ensures) (c .before .before .put-record .ensures)
+    negation (c .before .before .before .before .before .before .before .before .before .before .before .before .before .before .before .before .before .before .pre .1 .1) (sort-token _ (c .before .before .before .before .before .before .before .before .before .before .before .before .before .before .before .before .before .before .args .t) (c .before .before .before .before .before .before .before .before .before .before .before .before .before .before .enum-told .given .1)) (c .before .before .before .before .before .before .before .before .before .before .before .before .before .if1 .left) (c .before .before .before .before .before .before .before .before .before .before .before .before .next .ensures) (c .before .before .before .before .before .before .before .before .before .before .factor .ensures) (c .before .before .before .before .before .before .r .given .1) (c .before .before .before .plain .ensures) (c .before .before .put-record .ensures)
 
 factor-same-length-5 : (t : ℕ) → factor-lts.Need-same-length-5 (factor-calls t) (factor-at t) factor.Post
 factor-same-length-5 t c = c .before .before .before .before .before .before .before .before .expression .kept .1 .1 .1 .0
 
 factor-returns-7 : (t : ℕ) → factor-lts.Need-returns-7 (factor-calls t) (factor-at t) factor.Post
 factor-returns-7 t c =
-    group (c .before .before .before .before .before .before .before .before .before .before .before .before .before .before .before .before .pre .1 .1) (kind-token _ (c .before .before .before .before .before .before .before .before .before .before .before .before .before .before .before .before .args .t) (c .before .before .before .before .before .before .before .before .before .before .before .before .enum-told3 .given .1)) (c .before .before .before .before .before .before .before .before .before .before .before .if2 .left) (c .before .before .before .before .before .before .before .before .before .before .next2 .ensures) (c .before .before .before .before .before .before .before .before .expression .ensures) (c .before .before .before .before .r2 .given .1) (c .before .enum-told5 .given .1) (c .next3 .ensures)
+    group (c .before .before .before .before .before .before .before .before .before .before .before .before .before .before .before .before .pre .1 .1) (sort-token _ (c .before .before .before .before .before .before .before .before .before .before .before .before .before .before .before .before .args .t) (c .before .before .before .before .before .before .before .before .before .before .before .before .enum-told3 .given .1)) (c .before .before .before .before .before .before .before .before .before .before .before .if2 .left) (c .before .before .before .before .before .before .before .before .before .before .next2 .ensures) (c .before .before .before .before .before .before .before .before .expression .ensures) (c .before .before .before .before .r2 .given .1) (c .before .enum-told5 .given .1) (c .next3 .ensures)
 
 factor-same-length-6 : (t : ℕ) → factor-lts.Need-same-length-6 (factor-calls t) (factor-at t) factor.Post
 factor-same-length-6 t c = c .before .before .test .kept .1 .1 .0

@@ -3,7 +3,7 @@ use native.Mathlib.Omega.{arith}
 use mathlib.Core.Path.{sym, _∙_}
 use borrow.Author.Needs.{needs}
 use borrow.Author.Tests.{not-true, not-false}
-use Rattle.filter.proofs.Tests.{no-operand, broken-operand, named-path, named-alone}
+use Rattle.filter.proofs.Tests.{no-operand, broken-operand, named-says}
 use Rattle.filter.proofs.named.Statement.{statement}
 use Rattle.filter.proofs.named.Tie as tie
 
@@ -39,9 +39,6 @@ returns-2 c =
 next-requires-2 : tie.Need-next-requires-2
 next-requires-2 c κs = search needs
 
-add-m : tie.Need-add-m
-add-m c = search needs
-
 mul-put-record : tie.Need-mul-put-record
 mul-put-record c = search needs
 
@@ -51,12 +48,17 @@ put-record-requires c κs = search needs
 put-items-requires : tie.Need-put-items-requires
 put-items-requires c κs = search needs
 
-cast-t21 : tie.Need-cast-t21
-cast-t21 c = search needs
+add-t20 : tie.Need-add-t20
+add-t20 c =
+    let ready = c .before .before .before .before .before .before .before .before .before .before .before .before .before .before .before .before .before .before .before .pre .0 in
+    omega (arith, ready .short, ready .closed .here, ready .few)
+
+cast-t23 : tie.Need-cast-t23
+cast-t23 c = search needs
 
 add-t24 : tie.Need-add-t24
 add-t24 c =
-    let ready = c .before .before .before .before .before .before .before .before .before .before .before .before .before .before .before .before .before .before .before .before .before .before .pre .0 in
+    let ready = c .before .before .before .before .before .before .before .before .before .before .before .before .before .before .before .before .before .before .before .pre .0 in
     omega (arith, ready .short, ready .closed .here, ready .few)
 
 same-length : tie.Need-same-length
@@ -64,22 +66,11 @@ same-length c = search needs
 
 returns-3 : tie.Need-returns-3
 returns-3 c =
-    let d = c .before .before .before .before .before .before .before .before .before .before .before .before .before in
+    let d = c .before .before .before .before .before .before .before .before .before .before in
     let start = d .before .before .before .before .before .before .before .before .before in
     let operand = sym (d .before .before .before .before .before .is-operand .ensures) ∙ not-false _ (d .before .before .before .before .if1 .left) in
-    named-path (start .pre .0) (start .pre .1) (d .before .before .before .before .before .before .next .ensures) operand (d .before .before .before .bytes .ensures) (sym (d .found .given .1) ∙ d .before .before .meaning .ensures)
-    (c .before .before .before .before .before .before .before .before .before .before .before .next2 .ensures) (c .before .before .before .before .before .if2 .taken) (c .before .before .before .before .before .before .before .before .before .put-record .ensures) (c .before .before .before .put-items .ensures)
-
-same-length-2 : tie.Need-same-length-2
-same-length-2 c = search needs
-
-returns-4 : tie.Need-returns-4
-returns-4 c =
-    let d = c .before .before .before .before .before .before .before .before in
-    let start = d .before .before .before .before .before .before .before .before .before in
-    let operand = sym (d .before .before .before .before .before .is-operand .ensures) ∙ not-false _ (d .before .before .before .before .if1 .left) in
-    named-alone (start .pre .0) (start .pre .1) (d .before .before .before .before .before .before .next .ensures) operand (d .before .before .before .bytes .ensures) (sym (d .found .given .1) ∙ d .before .before .meaning .ensures)
-    (c .before .before .before .before .before .before .next2 .ensures) (c .if2 .left) (c .before .before .before .before .put-record .ensures)
+    named-says (start .pre .0) (start .pre .1) (d .before .before .before .before .before .before .next .ensures) operand (d .before .before .before .bytes .ensures) (sym (d .found .given .1) ∙ d .before .before .meaning .ensures)
+    (c .before .before .before .before .before .before .before .before .next2 .ensures) (c .before .before .before .before .before .before .put-record .ensures) (c .before .before .put-items .ensures)
 
 pub named-spec : {M : Type 1} → statement M
 named-spec =
@@ -94,13 +85,11 @@ named-spec =
     enum-told
     returns-2
     next-requires-2
-    add-m
     mul-put-record
     put-record-requires
     put-items-requires
-    cast-t21
+    add-t20
+    cast-t23
     add-t24
     same-length
-    returns-3
-    same-length-2
-    returns-4)
+    returns-3)

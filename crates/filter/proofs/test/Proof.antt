@@ -1,7 +1,7 @@
 -- `filter::test` meets its contract. Assumes nothing.
 use mathlib.Core.Path.{refl, sym, ap, _∙_}
 use borrow.Author.Needs.{needs}
-use Rattle.program.specs.Layout.{fieldsOf}
+use Rattle.program.specs.Layout.{headFields}
 use Rattle.program.specs.Compiling.{headOf, itemsOf}
 use Rattle.filter.specs.Parsing.{roleSaid}
 use Rattle.filter.proofs.ReadyTokens.{noTest, no-test-said}
@@ -58,7 +58,7 @@ same-length : tie.Need-same-length
 same-length c = search needs
 
 returns : tie.Need-returns
-unfolding itemsOf headOf fieldsOf
+unfolding itemsOf headOf headFields
 returns c =
     let role = sym (c .before .before .before .before .before .before .before .before .role-of .ensures) ∙ ap roleSaid (c .before .before .before .before .before .before .enum-told .given .1) in
     alone-says (flag-taken (c .before .before .before .before .before .before .before .before .before .before .before .pre .0) role refl (c .next .ensures)) refl (c .before .before .before .before .plain .ensures) (c .before .before .before .put-record .ensures)
@@ -67,7 +67,7 @@ same-length-2 : tie.Need-same-length-2
 same-length-2 c = search needs
 
 returns-2 : tie.Need-returns-2
-unfolding itemsOf headOf fieldsOf
+unfolding itemsOf headOf headFields
 returns-2 c =
     let role = sym (c .before .before .before .before .before .before .before .before .role-of .ensures) ∙ ap roleSaid (c .before .before .before .before .before .before .enum-told2 .given .1) in
     alone-says (flag-taken (c .before .before .before .before .before .before .before .before .before .before .before .pre .0) role refl (c .next2 .ensures)) refl (c .before .before .before .before .plain2 .ensures) (c .before .before .before .put-record2 .ensures)

@@ -30,11 +30,11 @@ answer-requires-2 c κs = search needs
 
 returns : tie.Need-returns
 unfolding valueOf
-returns c = λ lines counting. rw (c .before .before .judged .given .1)
+returns c = λ lines counting. rw (c .before .before .before .judged .given .1)
 
 returns-2 : tie.Need-returns-2
 unfolding valueOf
-returns-2 c = λ lines counting. rw (c .before .before .before .judged2 .given .1, c .answer .ensures .0, c .answer .ensures .1)
+returns-2 c = λ lines counting. rw (c .before .before .before .before .judged2 .given .1, c .answer .ensures .0, c .answer .ensures .1)
 
 returns-3 : tie.Need-returns-3
 unfolding valueOf

@@ -3,7 +3,6 @@ use borrow.Author.Needs.{needs}
 use Rattle.program.proofs.Answers.{refused, passed}
 use Rattle.judge.specs.Judging.{judgeOf}
 use Rattle.judge.specs.Functions.{valueOf}
-use Rattle.judge.proofs.Answering.{valid-few}
 use Rattle.judge.proofs.judge.Statement.{statement}
 use Rattle.judge.proofs.judge.Tie as tie
 
@@ -15,7 +14,7 @@ unfolding judgeOf valueOf
 returns c = rw (refused _ (c .before .is-valid .ensures) (c .if1 .taken))
 
 judge-valid-requires : tie.Need-judge-valid-requires
-judge-valid-requires c κs = valid-few _ (passed _ (c .before .before .is-valid .ensures) (c .before .if1 .left))
+judge-valid-requires c κs = passed _ (c .before .before .is-valid .ensures) (c .before .if1 .left)
 
 same-length : tie.Need-same-length
 same-length c = search needs

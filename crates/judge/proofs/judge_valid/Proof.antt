@@ -28,10 +28,10 @@ execute-requires : tie.Need-execute-requires
 execute-requires c κs = search needs
 
 returns-2 : tie.Need-returns-2
-returns-2 c = let a = c .before .before .before .before .before .before .before .before .before .before .args in
-    let told = c .before .before .before .before .decoded .given in
-    let ran = c .before .before .execute in
-    comes-dropped (now (a .program)) (now (a .bytes)) (now (a .lines)) _ (c .before .before .before .before .before .before .decode .ensures) (told .0 .0) (told .1) _
+returns-2 c = let a = c .before .before .before .before .before .before .before .before .before .before .before .args in
+    let told = c .before .before .before .before .before .decoded .given in
+    let ran = c .before .before .before .execute in
+    comes-dropped (now (a .program)) (now (a .bytes)) (now (a .lines)) _ (c .before .before .before .before .before .before .before .decode .ensures) (told .0 .0) (told .1) _
     (rw (not-true (ran .result .flag) (c .if1 .taken)) at (ran .ensures))
 
 write-requires : tie.Need-write-requires
@@ -47,11 +47,11 @@ same-length : tie.Need-same-length
 same-length c = search needs
 
 returns-3 : tie.Need-returns-3
-returns-3 c = let a = c .before .before .before .before .before .before .before .before .before .before .before .before .before .before .before .before .args in
-    let told = c .before .before .before .before .before .before .before .before .before .before .decoded .given in
-    let ran = c .before .before .before .before .before .before .before .before .execute in
+returns-3 c = let a = c .before .before .before .before .before .before .before .before .before .before .before .before .before .before .before .before .before .args in
+    let told = c .before .before .before .before .before .before .before .before .before .before .before .decoded .given in
+    let ran = c .before .before .before .before .before .before .before .before .before .execute in
     let wrote = c .before .before .before .before .write in
-    comes-short (now (a .program)) (now (a .bytes)) (now (a .lines)) _ (c .before .before .before .before .before .before .before .before .before .before .before .before .decode .ensures) (told .0 .0) (told .1) _
+    comes-short (now (a .program)) (now (a .bytes)) (now (a .lines)) _ (c .before .before .before .before .before .before .before .before .before .before .before .before .before .decode .ensures) (told .0 .0) (told .1) _
     (rw (not-false (ran .result .flag) (c .before .before .before .before .before .before .if1 .left)) at (ran .ensures))
     _ (rw (c .enum-told2 .given .1) at (wrote .ensures))
 
@@ -59,11 +59,11 @@ same-length-2 : tie.Need-same-length-2
 same-length-2 c = search needs
 
 returns-4 : tie.Need-returns-4
-returns-4 c = let a = c .before .before .before .before .before .before .before .before .before .before .before .before .before .before .before .before .before .args in
-    let told = c .before .before .before .before .before .before .before .before .before .before .before .decoded .given in
-    let ran = c .before .before .before .before .before .before .before .before .before .execute in
+returns-4 c = let a = c .before .before .before .before .before .before .before .before .before .before .before .before .before .before .before .before .before .before .args in
+    let told = c .before .before .before .before .before .before .before .before .before .before .before .before .decoded .given in
+    let ran = c .before .before .before .before .before .before .before .before .before .before .execute in
     let wrote = c .before .before .before .before .before .write in
-    comes-kept (now (a .program)) (now (a .bytes)) (now (a .lines)) _ (c .before .before .before .before .before .before .before .before .before .before .before .before .before .decode .ensures) (told .0 .0) (told .1) _
+    comes-kept (now (a .program)) (now (a .bytes)) (now (a .lines)) _ (c .before .before .before .before .before .before .before .before .before .before .before .before .before .before .decode .ensures) (told .0 .0) (told .1) _
     (rw (not-false (ran .result .flag) (c .before .before .before .before .before .before .before .if1 .left)) at (ran .ensures))
     _ _ (rw (c .before .wrote .given .1) at (wrote .ensures))
 

@@ -4,7 +4,6 @@ use borrow.Author.Needs.{needs}
 use Rattle.program.proofs.Answers.{refused, passed}
 use Rattle.judge.specs.Judging.{judgeOf}
 use Rattle.judge.specs.Functions.{valueOf}
-use Rattle.judge.proofs.Answering.{valid-few}
 use Rattle.judge.proofs.judge_with.Statement.{statement}
 use Rattle.judge.proofs.judge_with.Tie as tie
 
@@ -24,7 +23,7 @@ returns-2 c =
     rw (passed _ (c .before .before .before .is-valid .ensures) (c .before .before .if1 .left), ← c .before .is-full .ensures, c .if2 .taken)
 
 judge-valid-requires : tie.Need-judge-valid-requires
-judge-valid-requires c κs = valid-few _ (passed _ (c .before .before .before .before .is-valid .ensures) (c .before .before .before .if1 .left))
+judge-valid-requires c κs = passed _ (c .before .before .before .before .is-valid .ensures) (c .before .before .before .if1 .left)
 
 count-requires : tie.Need-count-requires
 count-requires c κs = sym (c .before .before .before .before .before .is-full .ensures) ∙ c .before .before .before .before .if2 .left

@@ -5,6 +5,7 @@ use denote.Ref.{now}
 use Rattle.octets.proofs.Writes.{both}
 use Rattle.aspath.specs.Wire.{widthBytes}
 use Rattle.attributes.proofs.Lookup.{asks-atomic}
+use Rattle.line.specs.Text.{bar}
 use Rattle.line.specs.Line.{atomicText}
 use Rattle.line.proofs.Fields.{field-absent, field-found}
 use borrow.Author.Needs.{needs}
@@ -43,7 +44,7 @@ returns-2 : tie.Need-returns-2
 returns-2 c = let a = c .before .before .before .before .before .before .before .before .before .before .before .before .before .before .before .before .before .args in
     let f = c .before .before .before .before .before .before .before .before .enum-told .given in
     rw (field-found (asks-atomic (widthBytes (a .width))) atomicText (now (a .s)) (f .0 .0) (f .0 .1 .0) (sym (c .before .before .before .before .before .before .before .before .before .before .find .ensures) ∙ f .1))
-    (both (124 ∷ []) _ (c .before .before .before .before .before .before .before .before .before .before .before .before .before .put .ensures) (both (65 ∷ []) (84 ∷ []) (c .before .before .before .before .before .before .put2 .ensures) (c .before .before .put3 .ensures)))
+    (both (bar ∷ []) _ (c .before .before .before .before .before .before .before .before .before .before .before .before .before .put .ensures) (both (65 ∷ []) (84 ∷ []) (c .before .before .before .before .before .before .put2 .ensures) (c .before .before .put3 .ensures)))
 
 pub put-atomic-field-spec : {M : Type 1} → statement M
 put-atomic-field-spec =

@@ -5,7 +5,7 @@ use Rattle.octets.proofs.Writes.{both}
 use Rattle.aspath.specs.Wire.{widthBytes}
 use Rattle.attributes.specs.Bodies.{attributesOf}
 use Rattle.line.specs.Line.{pathField, nextHopField, originField, atomicField}
-use Rattle.line.specs.Text.{following}
+use Rattle.line.specs.Text.{bar, following}
 use borrow.Author.Needs.{needs}
 use Rattle.line.proofs.put_attributes.Statement.{statement}
 use Rattle.line.proofs.put_attributes.Tie as tie
@@ -35,11 +35,11 @@ returns : tie.Need-returns
 unfolding following
 returns c = let a = c .before .before .before .before .before .before .before .before .before .before .before .before .before .before .before .before .before .before .before .before .before .before .before .before .before .before .args in
     let attributes = attributesOf (widthBytes (a .width)) (now (a .s)) in
-    both ((124 ∷ []) ++ pathField attributes) _ (c .before .before .before .before .before .before .before .before .before .before .before .before .before .before .before .before .before .before .before .before .before .before .put-path-field .ensures)
-    (both ((124 ∷ []) ++ nextHopField attributes) _ (c .before .before .before .before .before .before .before .before .before .before .before .before .before .before .before .before .before .before .put-next-hop-field .ensures)
-    (both ((124 ∷ []) ++ originField attributes) _ (c .before .before .before .before .before .before .before .before .before .before .before .before .before .before .put-origin-field .ensures)
-    (both ((124 ∷ []) ++ atomicField attributes) _ (c .before .before .before .before .before .before .before .before .before .before .put-atomic-field .ensures)
-    (both (124 ∷ []) (124 ∷ []) (c .before .before .before .before .before .before .put .ensures) (c .before .before .put2 .ensures)))))
+    both ((bar ∷ []) ++ pathField attributes) _ (c .before .before .before .before .before .before .before .before .before .before .before .before .before .before .before .before .before .before .before .before .before .before .put-path-field .ensures)
+    (both ((bar ∷ []) ++ nextHopField attributes) _ (c .before .before .before .before .before .before .before .before .before .before .before .before .before .before .before .before .before .before .put-next-hop-field .ensures)
+    (both ((bar ∷ []) ++ originField attributes) _ (c .before .before .before .before .before .before .before .before .before .before .before .before .before .before .put-origin-field .ensures)
+    (both ((bar ∷ []) ++ atomicField attributes) _ (c .before .before .before .before .before .before .before .before .before .before .put-atomic-field .ensures)
+    (both (bar ∷ []) (bar ∷ []) (c .before .before .before .before .before .before .put .ensures) (c .before .before .put2 .ensures)))))
 
 pub put-attributes-spec : {M : Type 1} → statement M
 put-attributes-spec =

@@ -4,7 +4,7 @@ use Rattle.octets.specs.Decimal.{decimal}
 use Rattle.octets.proofs.Writes.{both}
 use Rattle.network.specs.Text.{addressText}
 use Rattle.line.specs.Line.{peerText}
-use Rattle.line.specs.Text.{following}
+use Rattle.line.specs.Text.{space, bar, following}
 use borrow.Author.Needs.{needs}
 use Rattle.line.proofs.put_closing.Statement.{statement}
 use Rattle.line.proofs.put_closing.Tie as tie
@@ -43,13 +43,13 @@ returns : tie.Need-returns
 unfolding following
 returns c = let a = c .before .before .before .before .before .before .before .before .before .before .before .before .before .before .before .before .before .before .before .before .before .before .before .before .before .before .before .before .before .before .before .before .before .before .args in
     rw (← c .before .before .before .width-digit .ensures)
-    (both ((124 ∷ []) ++ peerText (a .address) (a .asn)) _
-    (both (124 ∷ []) _ (c .before .before .before .before .before .before .before .before .before .before .before .before .before .before .before .before .before .before .before .before .before .before .before .before .before .before .before .before .before .before .before .put .ensures)
+    (both ((bar ∷ []) ++ peerText (a .address) (a .asn)) _
+    (both (bar ∷ []) _ (c .before .before .before .before .before .before .before .before .before .before .before .before .before .before .before .before .before .before .before .before .before .before .before .before .before .before .before .before .before .before .before .put .ensures)
     (both (addressText (a .address)) _ (c .before .before .before .before .before .before .before .before .before .before .before .before .before .before .before .before .before .before .before .before .before .before .before .before .before .before .before .put-address .ensures)
-    (both (32 ∷ []) (decimal (a .asn)) (c .before .before .before .before .before .before .before .before .before .before .before .before .before .before .before .before .before .before .before .before .before .before .before .put2 .ensures) (c .before .before .before .before .before .before .before .before .before .before .before .before .before .before .before .before .before .before .before .put-decimal .ensures))))
-    (both ((124 ∷ []) ++ decimal (a .seconds)) _
-    (both (124 ∷ []) (decimal (a .seconds)) (c .before .before .before .before .before .before .before .before .before .before .before .before .before .before .before .put3 .ensures) (c .before .before .before .before .before .before .before .before .before .before .before .put-decimal2 .ensures))
-    (both (124 ∷ []) _ (c .before .before .before .before .before .before .before .put4 .ensures) (c .before .before .put5 .ensures))))
+    (both (space ∷ []) (decimal (a .asn)) (c .before .before .before .before .before .before .before .before .before .before .before .before .before .before .before .before .before .before .before .before .before .before .before .put2 .ensures) (c .before .before .before .before .before .before .before .before .before .before .before .before .before .before .before .before .before .before .before .put-decimal .ensures))))
+    (both ((bar ∷ []) ++ decimal (a .seconds)) _
+    (both (bar ∷ []) (decimal (a .seconds)) (c .before .before .before .before .before .before .before .before .before .before .before .before .before .before .before .put3 .ensures) (c .before .before .before .before .before .before .before .before .before .before .before .put-decimal2 .ensures))
+    (both (bar ∷ []) _ (c .before .before .before .before .before .before .before .put4 .ensures) (c .before .before .put5 .ensures))))
 
 pub put-closing-spec : {M : Type 1} → statement M
 put-closing-spec =

@@ -6,6 +6,7 @@ use denote.Ref.{now}
 use Rattle.octets.proofs.Writes.{both, nothing}
 use Rattle.aspath.specs.Wire.{widthBytes}
 use Rattle.attributes.specs.Bodies.{attributesOf}
+use Rattle.line.specs.Text.{bar}
 use Rattle.line.specs.Line.{closingFields}
 use Rattle.line.proofs.Lines.{line-none, line-some}
 use borrow.Author.Needs.{needs}
@@ -17,7 +18,7 @@ prefix-size-requires c κs = search needs
 
 returns : tie.Need-returns
 returns c = let a = c .before .before .before .before .before .args in
-    rw (line-none (a .kind) (attributesOf (widthBytes (a .parts .width)) (now (a .attributes))) (closingFields (a .parts .address) (a .parts .peer) (a .parts .seconds) (a .parts .width))
+    rw (line-none (a .sign) (attributesOf (widthBytes (a .parts .width)) (now (a .attributes))) (closingFields (a .parts .address) (a .parts .peer) (a .parts .seconds) (a .parts .width))
     (now (a .prefixes)) (sym (c .before .prefix-size .ensures) ∙ c .if1 .taken))
     (nothing (now (a .out)) (a .at) (omega arith) (omega arith))
 
@@ -44,10 +45,10 @@ same-length c = search needs
 
 returns-2 : tie.Need-returns-2
 returns-2 c = let a = c .before .before .before .before .before .before .before .before .before .before .before .before .before .before .before .before .before .before .before .before .before .before .before .before .before .before .before .before .before .args in
-    rw (line-some (a .kind) (attributesOf (widthBytes (a .parts .width)) (now (a .attributes))) (closingFields (a .parts .address) (a .parts .peer) (a .parts .seconds) (a .parts .width))
+    rw (line-some (a .sign) (attributesOf (widthBytes (a .parts .width)) (now (a .attributes))) (closingFields (a .parts .address) (a .parts .peer) (a .parts .seconds) (a .parts .width))
     (now (a .prefixes)) (λ z. c .before .before .before .before .before .before .before .before .before .before .before .before .before .before .before .before .before .before .before .before .before .before .before .before .if1 .left (c .before .before .before .before .before .before .before .before .before .before .before .before .before .before .before .before .before .before .before .before .before .before .before .before .before .prefix-size .ensures ∙ z)))
-    (both (a .kind ∷ []) _ (c .before .before .before .before .before .before .before .before .before .before .before .before .before .before .before .before .before .before .before .before .before .before .put .ensures)
-    (both (124 ∷ []) _ (c .before .before .before .before .before .before .before .before .before .before .before .before .before .before .before .before .before .before .put2 .ensures)
+    (both (a .sign ∷ []) _ (c .before .before .before .before .before .before .before .before .before .before .before .before .before .before .before .before .before .before .before .before .before .before .put .ensures)
+    (both (bar ∷ []) _ (c .before .before .before .before .before .before .before .before .before .before .before .before .before .before .before .before .before .before .put2 .ensures)
     (both _ _ (c .before .before .before .before .before .before .before .before .before .before .before .before .before .before .put-prefixes .ensures)
     (both _ _ (c .before .before .before .before .before .before .before .before .before .before .put-attributes .ensures)
     (both _ (10 ∷ []) (c .before .before .before .before .before .before .put-closing .ensures) (c .before .before .put3 .ensures))))))

@@ -6,6 +6,7 @@ use Rattle.octets.proofs.Writes.{both}
 use Rattle.network.specs.Text.{addressText}
 use Rattle.aspath.specs.Wire.{widthBytes}
 use Rattle.attributes.proofs.Lookup.{asks-next-hop}
+use Rattle.line.specs.Text.{bar}
 use Rattle.line.proofs.Fields.{field-absent, field-found}
 use borrow.Author.Needs.{needs}
 use Rattle.line.proofs.put_next_hop_field.Statement.{statement}
@@ -46,7 +47,7 @@ returns-2 : tie.Need-returns-2
 returns-2 c = let a = c .before .before .before .before .before .before .before .before .before .before .before .before .before .before .before .before .args in
     let f = c .before .before .before .before .before .before .before .found .given in
     rw (field-found (asks-next-hop (widthBytes (a .width))) addressText (now (a .s)) (f .0 .0) (f .0 .1 .0) (sym (c .before .before .before .before .before .before .before .before .before .find .ensures) ∙ f .1))
-    (both (124 ∷ []) _ (c .before .before .before .before .before .before .before .before .before .before .before .before .put .ensures) (rw (c .before .before .before .number .ensures, c .before .before .before .before .part .ensures) at (c .before .before .put-address .ensures)))
+    (both (bar ∷ []) _ (c .before .before .before .before .before .before .before .before .before .before .before .before .put .ensures) (rw (c .before .before .before .number .ensures, c .before .before .before .before .part .ensures) at (c .before .before .put-address .ensures)))
 
 pub put-next-hop-field-spec : {M : Type 1} → statement M
 put-next-hop-field-spec =

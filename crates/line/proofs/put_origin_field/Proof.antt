@@ -5,6 +5,7 @@ use denote.Ref.{now}
 use Rattle.octets.proofs.Writes.{both}
 use Rattle.aspath.specs.Wire.{widthBytes}
 use Rattle.attributes.proofs.Lookup.{asks-origin}
+use Rattle.line.specs.Text.{bar}
 use Rattle.line.specs.Line.{originText}
 use Rattle.line.proofs.Fields.{field-absent, field-found}
 use borrow.Author.Needs.{needs}
@@ -50,7 +51,7 @@ returns-2 : tie.Need-returns-2
 returns-2 c = let a = c .before .before .before .before .before .before .before .before .before .before .before .before .before .before .before .before .before .args in
     let f = c .before .before .before .before .before .before .before .before .found .given in
     rw (field-found (asks-origin (widthBytes (a .width))) originText (now (a .s)) (f .0 .0) (f .0 .1 .0) (sym (c .before .before .before .before .before .before .before .before .before .before .find .ensures) ∙ f .1))
-    (both (124 ∷ []) _ (c .before .before .before .before .before .before .before .before .before .before .before .before .before .put .ensures) (rw (c .before .before .before .origin-letter .ensures, octet-here _ 0 (c .before .before .before .before .number .ensures), c .before .before .before .before .before .part .ensures) at (c .before .before .put2 .ensures)))
+    (both (bar ∷ []) _ (c .before .before .before .before .before .before .before .before .before .before .before .before .before .put .ensures) (rw (c .before .before .before .origin-letter .ensures, octet-here _ 0 (c .before .before .before .before .number .ensures), c .before .before .before .before .before .part .ensures) at (c .before .before .put2 .ensures)))
 
 pub put-origin-field-spec : {M : Type 1} → statement M
 put-origin-field-spec =

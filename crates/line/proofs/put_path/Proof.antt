@@ -10,7 +10,7 @@ use lib.Seq.{drop-drop}
 use Rattle.octets.proofs.Writes.{Midst}
 use Rattle.aspath.specs.Wire.{widthBytes, segmentSize, segmentOf, segmentsOf}
 use Rattle.aspath.proofs.Segments.{segment-sizes}
-use Rattle.line.specs.Text.{following, segmentText}
+use Rattle.line.specs.Text.{space, following, segmentText}
 use Rattle.line.proofs.Texts.{item-fits, texts-next, texts-end, none-written, begins, next-written, all-written}
 use Rattle.line.proofs.put_path.Statement.{statement}
 use Rattle.line.proofs.put_path.Tie as tie
@@ -18,7 +18,7 @@ use Rattle.line.proofs.put_path.Tie as tie
 abbrev Inv-loop : tie.InvT-loop
 Inv-loop out₀ at s width first place₀ p₀ out place p =
     (p ≤ length s)
-    × Midst out₀ place₀ (following 32 (map segmentText (segmentsOf (widthBytes width) (drop p₀ s)))) out place (following 32 (map segmentText (segmentsOf (widthBytes width) (drop p s))))
+    × Midst out₀ place₀ (following space (map segmentText (segmentsOf (widthBytes width) (drop p₀ s)))) out place (following space (map segmentText (segmentsOf (widthBytes width) (drop p s))))
 
 abbrev μ-loop : tie.MeasureT-loop
 μ-loop out₀ at s width first place₀ p₀ out place p = length s - p
@@ -29,7 +29,7 @@ segment-size-requires c κs = search needs
 returns : tie.Need-returns Inv-loop μ-loop
 returns c = let a = c .before .before .before .before .args in
     let w = widthBytes (a .width) in
-    none-written 32 (texts-end (segmentSize w) (segmentOf w) segmentText (now (a .s)) (sym (c .before .segment-size .ensures) ∙ c .if1 .taken)) (omega arith) (omega arith)
+    none-written space (texts-end (segmentSize w) (segmentOf w) segmentText (now (a .s)) (sym (c .before .segment-size .ensures) ∙ c .if1 .taken)) (omega arith) (omega arith)
 
 put-segment-requires : tie.Need-put-segment-requires Inv-loop μ-loop
 put-segment-requires c κs = λ z. c .before .if1 .left (c .before .before .segment-size .ensures ∙ z)
@@ -60,7 +60,7 @@ loop-again c = let w = widthBytes (c .before .before .before .before .before .be
     let e = c .before .before .before .before .before .before .before .before .before .segment-size2 .ensures in (
       item-fits (segment-sizes w) s (c .before .before .before .before .before .before .before .before .before .before .loop .inv .0) e,
       rw (e, ← drop-drop (segmentSize w (drop p s)) p s)
-          (next-written 32 _ _ (texts-next (segmentSize w) (segmentOf w) segmentText (segment-sizes w) (drop p s) (λ z. c .before .before .before .before .before .before .before .before .if2 .left (e ∙ z)))
+          (next-written space _ _ (texts-next (segmentSize w) (segmentOf w) segmentText (segment-sizes w) (drop p s) (λ z. c .before .before .before .before .before .before .before .before .if2 .left (e ∙ z)))
           (c .before .before .before .before .before .before .before .before .before .before .loop .inv .1) (c .before .before .before .before .before .before .put .ensures) (c .before .before .put-segment2 .ensures)),
     )
 
@@ -73,7 +73,7 @@ returns-2 c = let a = c .before .before .before .before .before .before .before 
     let s = now (a .s) in
     let p = c .before .before .loop .p in
     let e = c .before .before .before .before .before .before .before .before .segment-size .ensures in
-    all-written 32 _ _ (texts-next (segmentSize w) (segmentOf w) segmentText (segment-sizes w) s (λ z. c .before .before .before .before .before .before .before .if1 .left (e ∙ z)))
+    all-written space _ _ (texts-next (segmentSize w) (segmentOf w) segmentText (segment-sizes w) s (λ z. c .before .before .before .before .before .before .before .if1 .left (e ∙ z)))
     (texts-end (segmentSize w) (segmentOf w) segmentText (drop p s) (sym (c .before .segment-size2 .ensures) ∙ c .if2 .taken))
     (c .before .before .before .before .before .put-segment .ensures)
     (rw e at (c .before .before .loop .inv .1))

@@ -5,7 +5,7 @@ use denote.Ref.{now}
 use Rattle.octets.proofs.Writes.{both}
 use Rattle.aspath.specs.Wire.{widthBytes}
 use Rattle.attributes.proofs.Lookup.{asks-path}
-use Rattle.line.specs.Text.{pathText}
+use Rattle.line.specs.Text.{bar, pathText}
 use Rattle.line.proofs.Fields.{field-absent, field-found}
 use borrow.Author.Needs.{needs}
 use Rattle.line.proofs.put_path_field.Statement.{statement}
@@ -43,7 +43,7 @@ returns-2 : tie.Need-returns-2
 returns-2 c = let a = c .before .before .before .before .before .before .before .before .before .before .before .before .before .before .before .args in
     let f = c .before .before .before .before .before .before .found .given in
     rw (field-found (asks-path (widthBytes (a .width))) pathText (now (a .s)) (f .0 .0) (f .0 .1 .0) (sym (c .before .before .before .before .before .before .before .before .find .ensures) ∙ f .1))
-    (both (124 ∷ []) _ (c .before .before .before .before .before .before .before .before .before .before .before .put .ensures) (rw (c .before .before .before .part .ensures) at (c .before .before .put-path .ensures)))
+    (both (bar ∷ []) _ (c .before .before .before .before .before .before .before .before .before .before .before .put .ensures) (rw (c .before .before .before .part .ensures) at (c .before .before .put-path .ensures)))
 
 pub put-path-field-spec : {M : Type 1} → statement M
 put-path-field-spec =

@@ -12,12 +12,12 @@ returns : tie.Need-returns
 unfolding decodeOf
 returns c = simp (← c .before .wrong-size .ensures, c .if1 .taken)
 
-wrong-kind-requires : tie.Need-wrong-kind-requires
-wrong-kind-requires c κs = search needs
+wrong-mrt-type-requires : tie.Need-wrong-mrt-type-requires
+wrong-mrt-type-requires c κs = search needs
 
 returns-2 : tie.Need-returns-2
 unfolding decodeOf
-returns-2 c = simp (← c .before .before .before .wrong-size .ensures, c .before .before .if1 .left, ← c .before .wrong-kind .ensures, c .if2 .taken)
+returns-2 c = simp (← c .before .before .before .wrong-size .ensures, c .before .before .if1 .left, ← c .before .wrong-mrt-type .ensures, c .if2 .taken)
 
 width-of-requires : tie.Need-width-of-requires
 width-of-requires c κs = search needs
@@ -31,7 +31,7 @@ returns-3 c =
     simp (
       ← c .before .before .before .before .before .wrong-size .ensures,
       c .before .before .before .before .if1 .left,
-      ← c .before .before .before .wrong-kind .ensures,
+      ← c .before .before .before .wrong-mrt-type .ensures,
       c .before .before .if2 .left,
       ← c .before .width-of .ensures,
     ) (ap decodingOf (c .message .ensures))
@@ -42,7 +42,7 @@ decode-spec =
     (tie.spec
     wrong-size-requires
     returns
-    wrong-kind-requires
+    wrong-mrt-type-requires
     returns-2
     width-of-requires
     message-requires

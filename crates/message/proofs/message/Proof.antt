@@ -1,8 +1,10 @@
 -- `message::message` meets its contract: a test each, and the type's byte as a number of one byte. Assumes nothing.
+use Prim.Native.Nat.{_+_}
 use borrow.Author.Tests.{eq-eqb, ne-eqb}
 use borrow.Author.Needs.{needs}
 use denote.Ref.{now}
 use Rattle.octets.proofs.Numbers.{number-one}
+use Rattle.message.specs.Represents.{markerSize}
 use Rattle.message.specs.Decode.{messageOf}
 use Rattle.message.proofs.message.Statement.{statement}
 use Rattle.message.proofs.message.Tie as tie
@@ -38,27 +40,27 @@ returns-2 c =
 number-requires : tie.Need-number-requires
 number-requires c κs = search needs
 
+other-parts-requires : tie.Need-other-parts-requires
+other-parts-requires c κs = let m = c .before .before .before in
+    rw (← m .before .frame-start .ensures .0, ← m .rest .ensures, ← number-one (now (m .rest .result)) (markerSize + 2)) (c .number .ensures)
+
 update-requires : tie.Need-update-requires
-update-requires c κs = search needs
+update-requires c κs = c .before .other-parts .ensures
 
 returns-3 : tie.Need-returns-3
 unfolding messageOf
-returns-3 c = let m = c .before .before .before .before .before in
+returns-3 c = let m = c .before .before .before .before .before .before in
     simp (
       ← m .before .before .before .wrong-peer .ensures,
       m .before .before .if1 .left,
       ← m .before .frame-start .ensures .0,
       ← m .rest .ensures,
-      ← c .before .before .before .before .wrong-frame .ensures,
-      c .before .before .before .if2 .left,
-      ← number-one (now (m .rest .result)) 18,
-      ← c .before .before .number .ensures,
+      ← c .before .before .before .before .before .wrong-frame .ensures,
+      c .before .before .before .before .if2 .left,
+      ← number-one (now (m .rest .result)) (markerSize + 2),
+      ← c .before .before .before .number .ensures,
       eq-eqb _ _ (c .before .if3 .taken),
     ) (c .update .ensures)
-
-other-requires : tie.Need-other-requires
-other-requires c κs = let m = c .before .before .before .before in
-    rw (← m .before .frame-start .ensures .0, ← m .rest .ensures, ← number-one (now (m .rest .result)) 18) (c .before .number .ensures)
 
 returns-4 : tie.Need-returns-4
 unfolding messageOf
@@ -70,10 +72,11 @@ returns-4 c = let m = c .before .before .before .before .before in
       ← m .rest .ensures,
       ← c .before .before .before .before .wrong-frame .ensures,
       c .before .before .before .if2 .left,
-      ← number-one (now (m .rest .result)) 18,
+      ← number-one (now (m .rest .result)) (markerSize + 2),
       ← c .before .before .number .ensures,
-      ne-eqb _ _ (c .before .if3 .left),
-    ) (c .other .ensures)
+      ne-eqb _ _ (c .if3 .left),
+      ← c .before .other-parts .ensures,
+    )
 
 pub message-spec : {M : Type 1} → statement M
 message-spec =
@@ -86,7 +89,7 @@ message-spec =
     wrong-frame-requires
     returns-2
     number-requires
+    other-parts-requires
     update-requires
     returns-3
-    other-requires
     returns-4)

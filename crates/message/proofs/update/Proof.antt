@@ -134,7 +134,7 @@ update-parts-requires c κs = let k = c .before .before .before .before .before 
     let e : withdrawn .result ≡ withdrawnSize b = rw (← start, ← rest) (withdrawn .ensures) in
     let f : attributes .result ≡ attributesSize b = rw (← start, ← rest, ← withdrawn .ensures) (attributes .ensures) in
     let h : wrongSections b ≡ false = rw (← start, ← rest, ← k .before .wrong-sections .ensures) (k .if1 .left) in
-    (e, f, omega (arith, sections-within (a .width) (now (a .s)) h))
+    (k .before .before .before .before .before .pre, e, f, omega (arith, sections-within (a .width) (now (a .s)) h))
 
 returns-5 : tie.Need-returns-5
 unfolding updateOf wrongAttributes wrongBody

@@ -5,6 +5,7 @@ use borrow.Author.Tests.{lt-ltb, le-ltb}
 use mathlib.Core.Path.{refl}
 use denote.Ref.{now}
 use lib.ListN.{drop-of-length-le}
+use Rattle.network.specs.Networks.{addressBits}
 use Rattle.network.specs.Wire.{prefixSize}
 use Rattle.network.proofs.Prefixes.{size-at}
 use Rattle.network.proofs.prefix_size.Statement.{statement}
@@ -22,7 +23,7 @@ cast-len c = omega (arith, c .shared-slice-known .given (c .before .before .args
 
 returns-2 : tie.Need-returns-2
 returns-2 c = let a = c .before .before .before .args in
-    rw (size-at 32 (now (a .s)) (a .at)) (simp (lt-ltb _ _ (c .if2 .taken)))
+    rw (size-at addressBits (now (a .s)) (a .at)) (simp (lt-ltb _ _ (c .if2 .taken)))
 
 add-size : tie.Need-add-size
 add-size c = search needs
@@ -35,11 +36,11 @@ sub-if3 c = search needs
 
 returns-3 : tie.Need-returns-3
 returns-3 c = let a = c .before .before .before .before .args in
-    rw (size-at 32 (now (a .s)) (a .at)) (simp (le-ltb _ _ (c .before .if2 .left), lt-ltb _ _ (c .if3 .taken)))
+    rw (size-at addressBits (now (a .s)) (a .at)) (simp (le-ltb _ _ (c .before .if2 .left), lt-ltb _ _ (c .if3 .taken)))
 
 returns-4 : tie.Need-returns-4
 returns-4 c = let a = c .before .before .before .before .args in
-    rw (size-at 32 (now (a .s)) (a .at)) (simp (le-ltb _ _ (c .before .if2 .left), le-ltb _ _ (c .if3 .left)))
+    rw (size-at addressBits (now (a .s)) (a .at)) (simp (le-ltb _ _ (c .before .if2 .left), le-ltb _ _ (c .if3 .left)))
 
 pub prefix-size-spec : {M : Type 1} → statement M
 prefix-size-spec =

@@ -7,13 +7,14 @@ use lib.ListN.{length, drop, length-drop}
 use lib.Seq.{drop-drop}
 use Rattle.octets.specs.Rows.{whole}
 use Rattle.octets.proofs.Rows.{whole-end, whole-bad, whole-next}
+use Rattle.network.specs.Networks.{addressBits}
 use Rattle.network.specs.Wire.{prefixSize}
 use Rattle.network.proofs.Prefixes.{prefix-sizes}
 use Rattle.network.proofs.prefixes_whole.Statement.{statement}
 use Rattle.network.proofs.prefixes_whole.Tie as tie
 
 abbrev Inv-loop : tie.InvT-loop
-Inv-loop s at₀ at = (at ≤ length s) × (whole (prefixSize 32) (drop at s) ≡ whole (prefixSize 32) s)
+Inv-loop s at₀ at = (at ≤ length s) × (whole (prefixSize addressBits) (drop at s) ≡ whole (prefixSize addressBits) s)
 
 abbrev μ-loop : tie.MeasureT-loop
 μ-loop s at₀ at = length s - at
@@ -27,12 +28,12 @@ prefix-size-requires c κs = tt
 returns : tie.Need-returns Inv-loop μ-loop
 returns c = let s = now (c .before .before .before .before .before .args .s) in
     let l = c .before .before .before .loop in
-    sym (whole-bad (prefixSize 32) (drop (l .at) s) (simp length-drop (omega arith)) (sym (c .before .prefix-size .ensures) ∙ c .if1 .taken)) ∙ l .inv .1
+    sym (whole-bad (prefixSize addressBits) (drop (l .at) s) (simp length-drop (omega arith)) (sym (c .before .prefix-size .ensures) ∙ c .if1 .taken)) ∙ l .inv .1
 
 add-at : tie.Need-add-at Inv-loop μ-loop
 add-at c = let s = now (c .before .before .before .before .before .args .s) in
     let l = c .before .before .before .loop in
-    omega (arith, prefix-sizes 32 .fits (drop (l .at) s), length-drop (l .at) s)
+    omega (arith, prefix-sizes addressBits .fits (drop (l .at) s), length-drop (l .at) s)
 
 loop-less : tie.Need-loop-less Inv-loop μ-loop
 loop-less c = omega arith
@@ -41,15 +42,15 @@ loop-again : tie.Need-loop-again Inv-loop μ-loop
 loop-again c = let s = now (c .before .before .before .before .before .args .s) in
     let l = c .before .before .before .loop in
     let e = c .before .prefix-size .ensures in (
-      omega (arith, prefix-sizes 32 .fits (drop (l .at) s), length-drop (l .at) s),
-      rw (e, ← drop-drop (prefixSize 32 (drop (l .at) s)) (l .at) s)
-          (sym (whole-next (prefixSize 32) (prefix-sizes 32) (drop (l .at) s) (λ z. c .if1 .left (e ∙ z))) ∙ l .inv .1),
+      omega (arith, prefix-sizes addressBits .fits (drop (l .at) s), length-drop (l .at) s),
+      rw (e, ← drop-drop (prefixSize addressBits (drop (l .at) s)) (l .at) s)
+          (sym (whole-next (prefixSize addressBits) (prefix-sizes addressBits) (drop (l .at) s) (λ z. c .if1 .left (e ∙ z))) ∙ l .inv .1),
     )
 
 returns-2 : tie.Need-returns-2 Inv-loop μ-loop
 returns-2 c = let s = now (c .before .before .before .args .s) in
     let l = c .before .loop in
-    sym (whole-end (prefixSize 32) (drop (l .at) s) (simp length-drop (omega arith))) ∙ l .inv .1
+    sym (whole-end (prefixSize addressBits) (drop (l .at) s) (simp length-drop (omega arith))) ∙ l .inv .1
 
 pub prefixes-whole-spec : {M : Type 1} → statement M
 prefixes-whole-spec =

@@ -8,7 +8,7 @@ use borrow.Author.Needs.{needs}
 use borrow.Author.Tests.{le-leb, lt-leb}
 use denote.Ref.{now}
 use Rattle.octets.specs.Choice.{pick}
-use Rattle.octets.specs.Numbers.{bytesOf}
+use Rattle.octets.specs.Numbers.{widestNumber, bytesOf}
 use Rattle.octets.specs.Writes.{lastPlace, Written}
 use Rattle.octets.proofs.Writes.{both, nothing}
 use Prim.Native.Nat.{ℕ, suc, _-_, _/_, _%_, _≤_, _<_}
@@ -22,15 +22,15 @@ use Rattle.octets.proofs.+put_number.{statement}
 use Rattle.octets.proofs.+put_number.Tie.{close}
 
 -- no bytes
-none-written : (l : List ℕ) (at w n : ℕ) → w ≡ 0 → at ≤ lastPlace → length l ≤ lastPlace → Written l at (pick (leb w 4) (bytesOf w n) []) l at
+none-written : (l : List ℕ) (at w n : ℕ) → w ≡ 0 → at ≤ lastPlace → length l ≤ lastPlace → Written l at (pick (leb w widestNumber) (bytesOf w n) []) l at
 unfolding bytesOf
 none-written l at w n e h s = rw e (nothing l at h s)
 
--- a width of one or more, at most four: the bytes before the last, then that
-then-last : {l m o : List ℕ} {at p q : ℕ} (w v n : ℕ) → w ≡ suc v → w ≤ 4 → Written l at (pick (leb v 4) (bytesOf v (n / 256)) []) m p → Written m p ((n % 256) ∷ []) o q
-    → Written l at (pick (leb w 4) (bytesOf w n) []) o q
+-- a width of one or more, at most the widest: the bytes before the last, then that
+then-last : {l m o : List ℕ} {at p q : ℕ} (w v n : ℕ) → w ≡ suc v → w ≤ widestNumber → Written l at (pick (leb v widestNumber) (bytesOf v (n / 256)) []) m p → Written m p ((n % 256) ∷ []) o q
+    → Written l at (pick (leb w widestNumber) (bytesOf w n) []) o q
 unfolding bytesOf
-then-last w v n e h x y = rw (le-leb w 4 h, e) (both (bytesOf v (n / 256)) ((n % 256) ∷ []) (rw (le-leb v 4 (omega arith)) at x) y)
+then-last w v n e h x y = rw (le-leb w widestNumber h, e) (both (bytesOf v (n / 256)) ((n % 256) ∷ []) (rw (le-leb v widestNumber (omega arith)) at x) y)
 
 abbrev μ-put-number : Measures 1 put-number-kinds.ps ℕ
 μ-put-number κs a = a .1 .1 .1 .0

@@ -6,14 +6,14 @@ use borrow.Author.Tests.{le-leb, lt-leb}
 use mathlib.Core.Path.{_≡_, sym}
 use lib.ListN.{length}
 use denote.Ref.{now}
-use Rattle.octets.specs.Numbers.{numberAt}
+use Rattle.octets.specs.Numbers.{widestNumber, numberAt}
 use Rattle.octets.proofs.Numbers.{number-past, number-next, number-none, room, next-lt}
 use Rattle.octets.proofs.number.Statement.{statement}
 use Rattle.octets.proofs.number.Tie as tie
 
 abbrev Inv-loop : tie.InvT-loop
 Inv-loop s at width n₀ i₀ n i =
-    (width ≤ 4) × (at < length s) × (i ≤ width) × (n ≡ numberAt s at i) × (n < 256 ^ i)
+    (width ≤ widestNumber) × (at < length s) × (i ≤ width) × (n ≡ numberAt s at i) × (n < 256 ^ i)
 
 abbrev μ-loop : tie.MeasureT-loop
 μ-loop s at width n₀ i₀ n i = width - i
@@ -56,7 +56,7 @@ loop-again c = let a = c .before .before .before .before .before .before .args i
 
 returns-3 : tie.Need-returns-3 Inv-loop μ-loop
 returns-3 c = let a = c .before .before .before .before .before .args in
-    let k : a .width ≤ 4 = omega arith in
+    let k : a .width ≤ widestNumber = omega arith in
     let e : c .before .loop .i ≡ a .width = omega arith in
     simp (le-leb _ _ k) (rw (← e) (c .before .loop .inv .3))
 

@@ -4,7 +4,7 @@ use borrow.Author.Tests.{eq-eqb, ne-eqb}
 use mathlib.Core.Path.{_≡_}
 use mathlib.Core.Option.{none, some}
 use denote.Ref.{now}
-use Rattle.operand.specs.Decimals.{numeral}
+use Rattle.operand.specs.Decimals.{byteLimit, numeral}
 use Rattle.operand.proofs.Numbers.{value-none, value-some}
 use Rattle.operand.proofs.code_record.Statement.{statement}
 use Rattle.operand.proofs.code_record.Tie as tie
@@ -26,7 +26,7 @@ enum-told c = search needs
 
 returns-2 : tie.Need-returns-2
 returns-2 c = let a = c .before .before .before .before .before .args in
-    let e : numeral 256 (now (a .bytes)) ≡ none = value-none (c .before .before .numeral .ensures) (c .enum-told .given .1) in
+    let e : numeral byteLimit (now (a .bytes)) ≡ none = value-none (c .before .before .numeral .ensures) (c .enum-told .given .1) in
     rw (eq-eqb (a .named) 0 (c .before .before .before .if1 .left), e)
 
 head-requires-2 : tie.Need-head-requires-2
@@ -35,7 +35,7 @@ head-requires-2 c κs = search needs
 returns-3 : tie.Need-returns-3
 returns-3 c = let a = c .before .before .before .before .before .before .before .args in
     let g = c .before .before .value .given in
-    let e : numeral 256 (now (a .bytes)) ≡ some (g .0 .0) = value-some (c .before .before .before .before .numeral .ensures) (g .1) in
+    let e : numeral byteLimit (now (a .bytes)) ≡ some (g .0 .0) = value-some (c .before .before .before .before .numeral .ensures) (g .1) in
     rw (c .head2 .ensures, eq-eqb (a .named) 0 (c .before .before .before .before .before .if1 .left), e)
 
 pub code-record-spec : {M : Type 1} → statement M

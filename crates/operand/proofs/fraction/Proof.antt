@@ -5,7 +5,7 @@ use Prim.Native.Nat.{_+_, _-_}
 use borrow.Author.Tests.{eq-eqb, ne-eqb, le-leb, lt-leb}
 use denote.Ref.{now}
 use lib.ListN.{length, getD, drop-of-length-le}
-use Rattle.operand.specs.Times.{fractionOf}
+use Rattle.operand.specs.Times.{fractionDigits, fractionOf}
 use Rattle.operand.proofs.Numbers.{value-none, value-some}
 use Rattle.operand.proofs.Fractions.{fraction-at}
 use Rattle.operand.proofs.fraction.Statement.{statement}
@@ -41,7 +41,7 @@ returns-4 : tie.Need-returns-4
 returns-4 c = let a = c .before .before .before .before .before .before .args in
     let s = now (a .s) in
     let n = length s - (a .at + 1) in
-    rw (fraction-at s (a .at) (c .before .before .before .before .if1 .left), eq-eqb (getD s (a .at) 0) 46 (c .before .before .if2 .left), le-leb 1 n (c .before .if3 .left), lt-leb n 6 (c .if4 .taken))
+    rw (fraction-at s (a .at) (c .before .before .before .before .if1 .left), eq-eqb (getD s (a .at) 0) 46 (c .before .before .if2 .left), le-leb 1 n (c .before .if3 .left), lt-leb n fractionDigits (c .if4 .taken))
 
 digits-requires : tie.Need-digits-requires
 digits-requires c κs = search needs
@@ -60,7 +60,7 @@ returns-5 c = let a = c .before .before .before .before .before .before .before 
       fraction-at s (a .at) (c .before .before .before .before .before .before .before .if1 .left),
       eq-eqb (getD s (a .at) 0) 46 (c .before .before .before .before .before .if2 .left),
       le-leb 1 n (c .before .before .before .before .if3 .left),
-      le-leb n 6 (c .before .before .before .if4 .left),
+      le-leb n fractionDigits (c .before .before .before .if4 .left),
       value-none (c .before .before .digits .ensures .said) (c .enum-told .given .1),
     )
 
@@ -77,7 +77,7 @@ returns-6 c = let a = c .before .before .before .before .before .before .before 
       fraction-at s (a .at) (c .before .before .before .before .before .before .before .before .before .if1 .left),
       eq-eqb (getD s (a .at) 0) 46 (c .before .before .before .before .before .before .before .if2 .left),
       le-leb 1 n (c .before .before .before .before .before .before .if3 .left),
-      le-leb n 6 (c .before .before .before .before .before .if4 .left),
+      le-leb n fractionDigits (c .before .before .before .before .before .if4 .left),
       value-some (c .before .before .before .before .digits .ensures .said) (g .1),
       c .scaled .ensures,
     )

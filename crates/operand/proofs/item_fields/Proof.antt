@@ -1,6 +1,6 @@
 -- `operand::item_fields` meets its contract, one kind of item after another. Assumes nothing.
 use borrow.Author.Needs.{needs}
-use Rattle.program.specs.Layout.{fieldsOf}
+use Rattle.program.specs.Layout.{itemFields, fieldsOf}
 use Rattle.operand.proofs.item_fields.Statement.{statement}
 use Rattle.operand.proofs.item_fields.Tie as tie
 
@@ -14,15 +14,15 @@ enum-told : tie.Need-enum-told
 enum-told c = search needs
 
 returns : tie.Need-returns
-unfolding fieldsOf
+unfolding fieldsOf itemFields
 returns c = rw (c .before .i .given .1)
 
 returns-2 : tie.Need-returns-2
-unfolding fieldsOf
+unfolding fieldsOf itemFields
 returns-2 c = rw (c .before .i2 .given .1)
 
 returns-3 : tie.Need-returns-3
-unfolding fieldsOf
+unfolding fieldsOf itemFields
 returns-3 c = rw (c .enum-told .given .1)
 
 pub item-fields-spec : {M : Type 1} → statement M

@@ -6,31 +6,33 @@ use mathlib.Core.Path.{_≡_, refl}
 use mathlib.Core.Option.{Option, none, some}
 use denote.Ref.{now}
 use lib.ListN.{length}
+use Rattle.token.specs.Texts.{textLimit}
 use Rattle.program.specs.Readings.{typeIs, hasAttribute}
-use Rattle.program.specs.Layout.{fieldsOf}
-use Rattle.program.specs.Compiling.{headOf}
-use Rattle.operand.specs.Fronts.{onward}
+use Rattle.program.specs.Kinds.{typeKind, attributeKind}
+use Rattle.program.specs.Layout.{headFields}
+use Rattle.program.specs.Compiling.{headOf, itemsOf}
+use Rattle.octets.specs.Choice.{onward}
 use Rattle.names.specs.Names.{typeNames, attributeNames}
 use Rattle.operand.specs.Codes.{coded}
-use Rattle.operand.specs.Tests.{meaning, meantOf, meantBy, codeMeant}
+use Rattle.operand.specs.Tests.{meaning, meantOf, operandMeaning, codeMeant}
 use Rattle.operand.proofs.meaning.Statement.{statement}
 use Rattle.operand.proofs.meaning.Tie as tie
 
--- a code of kind 1 is a message type
-type-record : (o : Option ℕ) → codeMeant 1 o ≡ meantOf (onward o (λ c. some (typeIs c)))
-unfolding fieldsOf headOf
+-- a code of one kind is a message type
+type-record : (o : Option ℕ) → codeMeant typeKind o ≡ meantOf (onward o (λ c. some (typeIs c)))
+unfolding headFields headOf itemsOf
 type-record none = refl
 type-record (some c) = refl
 
--- and one of kind 2 an attribute
-attribute-record : (o : Option ℕ) → codeMeant 2 o ≡ meantOf (onward o (λ c. some (hasAttribute c)))
-unfolding fieldsOf headOf
+-- and of another an attribute
+attribute-record : (o : Option ℕ) → codeMeant attributeKind o ≡ meantOf (onward o (λ c. some (hasAttribute c)))
+unfolding headFields headOf itemsOf
 attribute-record none = refl
 attribute-record (some c) = refl
 
 returns : tie.Need-returns
-unfolding meantBy
-returns c = rw (lt-ltb 4096 (length (now (c .before .before .args .bytes))) (c .if1 .taken))
+unfolding operandMeaning
+returns c = rw (lt-ltb textLimit (length (now (c .before .before .args .bytes))) (c .if1 .taken))
 
 enum-told : tie.Need-enum-told
 enum-told c = search needs
@@ -75,30 +77,30 @@ network-operand-requires : tie.Need-network-operand-requires
 network-operand-requires c κs = search needs
 
 returns-2 : tie.Need-returns-2
-unfolding meantBy meaning coded fieldsOf headOf
+unfolding operandMeaning meaning coded headFields headOf itemsOf
 returns-2 c = let s = now (c .before .before .before .before .before .before .args .bytes) in
-    rw (le-ltb 4096 (length s) (c .before .before .before .before .if1 .left), c .before .before .enum-told .given .1, c .code-record .ensures, c .before .type-named .ensures) (type-record (coded typeNames s))
+    rw (le-ltb textLimit (length s) (c .before .before .before .before .if1 .left), c .before .before .enum-told .given .1, c .code-record .ensures, c .before .type-named .ensures) (type-record (coded typeNames s))
 
 returns-3 : tie.Need-returns-3
-unfolding meantBy meaning coded fieldsOf headOf
+unfolding operandMeaning meaning coded headFields headOf itemsOf
 returns-3 c = let s = now (c .before .before .before .before .before .before .args .bytes) in
-    rw (le-ltb 4096 (length s) (c .before .before .before .before .if1 .left), c .before .before .enum-told2 .given .1, c .code-record2 .ensures, c .before .attribute-named .ensures) (attribute-record (coded attributeNames s))
+    rw (le-ltb textLimit (length s) (c .before .before .before .before .if1 .left), c .before .before .enum-told2 .given .1, c .code-record2 .ensures, c .before .attribute-named .ensures) (attribute-record (coded attributeNames s))
 
 returns-4 : tie.Need-returns-4
-unfolding meantBy
-returns-4 c = rw (le-ltb 4096 (length (now (c .before .before .before .before .before .args .bytes))) (c .before .before .before .if1 .left), c .before .enum-told3 .given .1) (c .pattern .ensures)
+unfolding operandMeaning
+returns-4 c = rw (le-ltb textLimit (length (now (c .before .before .before .before .before .args .bytes))) (c .before .before .before .if1 .left), c .before .enum-told3 .given .1) (c .pattern .ensures)
 
 returns-5 : tie.Need-returns-5
-unfolding meantBy
-returns-5 c = rw (le-ltb 4096 (length (now (c .before .before .before .before .before .args .bytes))) (c .before .before .before .if1 .left), c .before .enum-told4 .given .1) (c .peer .ensures)
+unfolding operandMeaning
+returns-5 c = rw (le-ltb textLimit (length (now (c .before .before .before .before .before .args .bytes))) (c .before .before .before .if1 .left), c .before .enum-told4 .given .1) (c .peer .ensures)
 
 returns-6 : tie.Need-returns-6
-unfolding meantBy
-returns-6 c = rw (le-ltb 4096 (length (now (c .before .before .before .before .before .args .bytes))) (c .before .before .before .if1 .left), c .before .enum-told5 .given .1) (c .time .ensures)
+unfolding operandMeaning
+returns-6 c = rw (le-ltb textLimit (length (now (c .before .before .before .before .before .args .bytes))) (c .before .before .before .if1 .left), c .before .enum-told5 .given .1) (c .time .ensures)
 
 returns-7 : tie.Need-returns-7
-unfolding meantBy
-returns-7 c = rw (le-ltb 4096 (length (now (c .before .before .before .before .before .before .args .bytes))) (c .before .before .before .before .if1 .left), c .before .before .name .given .1) (c .network-operand .ensures)
+unfolding operandMeaning
+returns-7 c = rw (le-ltb textLimit (length (now (c .before .before .before .before .before .before .args .bytes))) (c .before .before .before .before .if1 .left), c .before .before .name .given .1) (c .network-operand .ensures)
 
 pub meaning-spec : {M : Type 1} → statement M
 meaning-spec =

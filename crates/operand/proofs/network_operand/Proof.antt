@@ -7,10 +7,10 @@ use mathlib.Core.Option.{Option, none, some}
 use denote.Ref.{now}
 use lib.ListN.{getD, drop}
 use Rattle.octets.proofs.Numbers.{number-one}
-use Rattle.network.specs.declared.Network.{Network}
+use Rattle.network.specs.Networks.{Network}
 use Rattle.network.specs.declared.Relation.{Relation}
 use Rattle.program.specs.Readings.{Side, eitherSide, announced, withdrawn, networkIs}
-use Rattle.operand.specs.Fronts.{onward}
+use Rattle.octets.specs.Choice.{onward}
 use Rattle.operand.specs.Addresses.{networkRead, sided, networkOperand}
 use Rattle.operand.specs.Tests.{meaning, meantOf, networkMeant}
 use Rattle.operand.proofs.Places.{within-of}
@@ -28,24 +28,24 @@ number-requires c κs = search needs
 network-record-requires : tie.Need-network-record-requires
 network-record-requires c κs = let s = now (c .before .before .before .args .bytes) in
     let x : getD s 0 0 ≡ c .before .number .result = sym (c .before .number .ensures ∙ number-one s 0) in
-    (omega (arith, within-of s 0 (omega arith)), omega arith)
+    omega (arith, within-of s 0 (omega arith))
 
 returns : tie.Need-returns
 unfolding meaning networkOperand
 returns c = let s = now (c .before .before .before .before .args .bytes) in
     let x : getD s 0 0 ≡ c .before .before .number .result = sym (c .before .before .number .ensures ∙ number-one s 0) in
-    rw (c .network-record .ensures, x, eq-eqb (c .before .before .number .result) 43 (c .before .if1 .taken)) (on-side _ announced (networkRead (drop 1 s)))
+    rw (c .network-record .ensures announced refl, x, eq-eqb (c .before .before .number .result) 43 (c .before .if1 .taken)) (on-side _ announced (networkRead (drop 1 s)))
 
 network-record-requires-2 : tie.Need-network-record-requires-2
 network-record-requires-2 c κs = let s = now (c .before .before .before .before .args .bytes) in
     let x : getD s 0 0 ≡ c .before .before .number .result = sym (c .before .before .number .ensures ∙ number-one s 0) in
-    (omega (arith, within-of s 0 (omega arith)), omega arith)
+    omega (arith, within-of s 0 (omega arith))
 
 returns-2 : tie.Need-returns-2
 unfolding meaning networkOperand
 returns-2 c = let s = now (c .before .before .before .before .before .args .bytes) in
     let x : getD s 0 0 ≡ c .before .before .before .number .result = sym (c .before .before .before .number .ensures ∙ number-one s 0) in
-    rw (c .network-record2 .ensures, x, ne-eqb (c .before .before .before .number .result) 43 (c .before .before .if1 .left), eq-eqb (c .before .before .before .number .result) 45 (c .before .if2 .taken)) (on-side _ withdrawn (networkRead (drop 1 s)))
+    rw (c .network-record2 .ensures withdrawn refl, x, ne-eqb (c .before .before .before .number .result) 43 (c .before .before .if1 .left), eq-eqb (c .before .before .before .number .result) 45 (c .before .if2 .taken)) (on-side _ withdrawn (networkRead (drop 1 s)))
 
 network-record-requires-3 : tie.Need-network-record-requires-3
 network-record-requires-3 c κs = search needs
@@ -54,7 +54,7 @@ returns-3 : tie.Need-returns-3
 unfolding meaning networkOperand
 returns-3 c = let s = now (c .before .before .before .before .before .args .bytes) in
     let x : getD s 0 0 ≡ c .before .before .before .number .result = sym (c .before .before .before .number .ensures ∙ number-one s 0) in
-    rw (c .network-record3 .ensures, x, ne-eqb (c .before .before .before .number .result) 43 (c .before .before .if1 .left), ne-eqb (c .before .before .before .number .result) 45 (c .before .if2 .left)) (on-side _ eitherSide (networkRead s))
+    rw (c .network-record3 .ensures eitherSide refl, x, ne-eqb (c .before .before .before .number .result) 43 (c .before .before .if1 .left), ne-eqb (c .before .before .before .number .result) 45 (c .before .if2 .left)) (on-side _ eitherSide (networkRead s))
 
 pub network-operand-spec : {M : Type 1} → statement M
 network-operand-spec =

@@ -10,7 +10,7 @@ use lib.ListN.{length, drop}
 use denote.Ref.{now}
 use Rattle.octets.specs.Choice.{pick}
 use Rattle.octets.proofs.Choices.{second}
-use Rattle.operand.specs.Decimals.{isDigit, numberOn, number}
+use Rattle.operand.specs.Decimals.{wordLimit, isDigit, numberOn, number}
 use Rattle.operand.proofs.Decimals.{digit-of}
 use Rattle.operand.proofs.Places.{stops-here, stops-end}
 use Rattle.operand.proofs.Numbers.{read-none, number-ends, zero-at, over-at, taken-at}
@@ -19,7 +19,7 @@ use Rattle.operand.proofs.number_at.Tie as tie
 
 abbrev Inv-loop : tie.InvT-loop
 Inv-loop s at limit n₀ end₀ n end =
-    (at ≤ end) × (end ≤ length s) × (n < 4294967296) × (at < end → n < limit) × (numberOn limit (leb end at) n (drop end s) ≡ number limit (drop at s))
+    (at ≤ end) × (end ≤ length s) × (n < wordLimit) × (at < end → n < limit) × (numberOn limit (leb end at) n (drop end s) ≡ number limit (drop at s))
 
 abbrev μ-loop : tie.MeasureT-loop
 μ-loop s at limit n₀ end₀ n end = length s - end

@@ -1,98 +1,73 @@
--- `operand::put_items` meets its contract. The loop's invariant: the items from `p` on are left to write. Assumes nothing.
-use Prim.Native.Nat.{_-_, _≤_}
+-- `operand::put_items` meets its contract, by the name. Assumes nothing.
+use Prim.Native.Nat.{ℕ}
 use native.Mathlib.Omega.{arith}
 use borrow.Author.Needs.{needs}
-use mathlib.Core.Path.{_∙_}
+use borrow.Author.Tests.{lt-ltb, le-ltb}
+use types.Run.{OneOf, miss}
+use mathlib.Core.Path.{_≡_, refl, ap}
+use mathlib.Core.Option.{Option, none, some}
+use mathlib.Core.List.{List, [], _∷_, map}
+use denote.Ref.{now}
+use denote.Enum.Declared.{tagOf}
 use lib.ListN.{length}
-use Rattle.octets.proofs.Writes.{Midst, starts}
-use Rattle.operand.proofs.Blanks.{blanks-within}
-use Rattle.operand.proofs.PatternReads.{itemsText, written-none, written-last, written-next}
-use Rattle.operand.proofs.PatternMeant.{items-at}
+use Rattle.octets.proofs.Writes.{starts, ends}
+use Rattle.program.specs.Readings.{Test, typeIs, hasAttribute, peerIs, networkIs, timeIs}
+use Rattle.program.specs.Records.{item}
+use Rattle.program.specs.Layout.{encodeAll}
+use Rattle.program.specs.Compiling.{itemsOf}
+use Rattle.token.specs.Texts.{textLimit}
+use Rattle.names.specs.Names.{typeNames, attributeNames}
+use Rattle.octets.specs.Choice.{onward}
+use Rattle.operand.specs.Codes.{coded}
+use Rattle.operand.specs.Addresses.{networkOperand}
+use Rattle.operand.specs.Peers.{peerOperand}
+use Rattle.operand.specs.Times.{timeOperand}
+use Rattle.operand.specs.Tests.{meaning, operandMeaning, followingMeant}
+use Rattle.operand.specs.declared.Name.{Name}
+use Rattle.operand.specs.declared.Name.the-variants.{MessageType as typeName, Attribute as attributeName, Path as pathName, Peer as peerName, Time as timeName, Network as networkName}
+use Rattle.operand.proofs.Name.{the-type}
 use Rattle.operand.proofs.put_items.Statement.{statement}
 use Rattle.operand.proofs.put_items.Tie as tie
 
-abbrev Inv-loop : tie.InvT-loop
-Inv-loop bytes out₀ at place₀ start p₀ out place p = (p ≤ length bytes) × Midst out₀ place₀ (itemsText bytes p₀) out place (itemsText bytes p)
+-- a test with no items
+bare : {A : Type 0} (o : Option A) (f : A → Test) → ((a : A) → itemsOf (f a) ≡ []) → followingMeant (onward o (λ a. some (f a))) ≡ []
+bare none f e = refl
+bare (some a) f e = ap (map item) (e a)
 
-abbrev μ-loop : tie.MeasureT-loop
-μ-loop bytes out₀ at place₀ start p₀ out place p = length bytes - p
+-- only a path has any
+others-bare : (k : Name) → OneOf (0 ∷ 1 ∷ 3 ∷ 4 ∷ 5 ∷ []) (tagOf the-type k) → (v : List ℕ) → followingMeant (meaning k v) ≡ []
+unfolding meaning itemsOf
+others-bare typeName o v = bare (coded typeNames v) typeIs (λ c. refl)
+others-bare attributeName o v = bare (coded attributeNames v) hasAttribute (λ c. refl)
+others-bare pathName o v = absurd (miss (0 ∷ 1 ∷ 3 ∷ 4 ∷ 5 ∷ []) 2 tt o)
+others-bare peerName o v = bare (peerOperand v) peerIs (λ p. refl)
+others-bare timeName o v = bare (timeOperand v) (λ t. timeIs (t .comparison) (t .seconds) (t .micros)) (λ t. refl)
+others-bare (networkName r) o v = bare (networkOperand v) (λ n. networkIs r (n .network) (n .side)) (λ n. refl)
 
-blanks-end-requires : tie.Need-blanks-end-requires Inv-loop μ-loop
-blanks-end-requires c κs = search needs
+returns : tie.Need-returns
+unfolding operandMeaning encodeAll
+returns c = rw (lt-ltb textLimit (length (now (c .before .before .before .args .bytes))) (c .if1 .taken)) (ends (starts _ _ [] (omega arith) (omega arith)))
 
-optional-end-requires : tie.Need-optional-end-requires Inv-loop μ-loop
-optional-end-requires c κs = blanks-within _ 0 (c .blanks-end .ensures) (omega arith)
-
-blanks-end-requires-2 : tie.Need-blanks-end-requires-2 Inv-loop μ-loop
-blanks-end-requires-2 c κs = search needs
-
-loop-holds : tie.Need-loop-holds Inv-loop μ-loop
-loop-holds c = (blanks-within _ _ (c .blanks-end2 .ensures) (c .before .optional-end .ensures .high), starts _ _ _ (omega arith) (omega arith))
-
-item-at-requires : tie.Need-item-at-requires Inv-loop μ-loop
-item-at-requires c κs = c .loop .inv .0
-
-enum-known-read : tie.Need-enum-known-read Inv-loop μ-loop
-enum-known-read c = search needs
-
-enum-told : tie.Need-enum-told Inv-loop μ-loop
+enum-told : tie.Need-enum-told
 enum-told c = search needs
 
-same-length : tie.Need-same-length Inv-loop μ-loop
-same-length c = c .before .before .before .loop .inv .1 .long
+put-pattern-items-requires : tie.Need-put-pattern-items-requires
+put-pattern-items-requires c κs = search needs
 
-returns : tie.Need-returns Inv-loop μ-loop
-returns c =
-    rw (items-at (c .before .before .before .before .before .before .blanks-end .ensures) (c .before .before .before .before .before .optional-end .ensures) (c .before .before .before .before .blanks-end2 .ensures))
-    (written-none (c .before .before .item-at .ensures) (c .before .before .before .loop .inv .1) (c .enum-told .given .1))
+same-length : tie.Need-same-length
+same-length c = search needs
 
-item-fields-requires : tie.Need-item-fields-requires Inv-loop μ-loop
-item-fields-requires c κs = search needs
+returns-2 : tie.Need-returns-2
+unfolding operandMeaning
+returns-2 c = let d = c .before .before .before .before in
+    rw (le-ltb textLimit (length (now (d .before .before .before .before .before .args .bytes))) (d .before .before .if1 .left), d .enum-told .given .1) (c .before .before .put-pattern-items .ensures)
 
-put-record-requires : tie.Need-put-record-requires Inv-loop μ-loop
-put-record-requires c κs = search needs
-
-blanks-end-requires-3 : tie.Need-blanks-end-requires-3 Inv-loop μ-loop
-blanks-end-requires-3 c κs = search needs
-
-same-length-2 : tie.Need-same-length-2 Inv-loop μ-loop
-same-length-2 c = c .before .before .before .before .put-record .kept .0 ∙ c .before .before .before .before .before .before .before .before .before .before .before .loop .inv .1 .long
-
-returns-2 : tie.Need-returns-2 Inv-loop μ-loop
-returns-2 c =
-    rw (items-at (c .before .before .before .before .before .before .before .before .before .before .before .before .before .before .blanks-end .ensures) (c .before .before .before .before .before .before .before .before .before .before .before .before .before .optional-end .ensures) (c .before .before .before .before .before .before .before .before .before .before .before .before .blanks-end2 .ensures))
-    (written-last (c .before .before .before .before .before .before .before .before .before .before .item-at .ensures) (c .before .before .before .before .before .before .before .before .before .before .before .loop .inv .1) (c .before .before .before .before .before .before .before .before .read .given .1) (c .before .blanks-end3 .ensures)
-    (rw (c .before .before .before .before .before .item-fields .ensures) at (c .before .before .before .before .put-record .ensures)) (omega arith) (c .if1 .taken))
-
-loop-less : tie.Need-loop-less Inv-loop μ-loop
-loop-less c = omega (arith, c .before .before .before .before .before .before .before .before .before .before .item-at .ensures .ends _ _ (c .before .before .before .before .before .before .before .before .read .given .1))
-
-loop-again : tie.Need-loop-again Inv-loop μ-loop
-loop-again c = (
-  blanks-within _ _ (c .before .blanks-end3 .ensures) (c .before .before .before .before .before .before .before .before .before .before .item-at .ensures .ends _ _ (c .before .before .before .before .before .before .before .before .read .given .1) .1),
-  written-next (c .before .before .before .before .before .before .before .before .before .before .item-at .ensures) (c .before .before .before .before .before .before .before .before .before .before .before .loop .inv .1) (c .before .before .before .before .before .before .before .before .read .given .1) (c .before .blanks-end3 .ensures)
-      (rw (c .before .before .before .before .before .item-fields .ensures) at (c .before .before .before .before .put-record .ensures)) (omega arith) (c .if1 .left),
-)
+returns-3 : tie.Need-returns-3
+unfolding operandMeaning encodeAll
+returns-3 c = let a = c .before .before .before .before .args in
+    rw (le-ltb textLimit (length (now (a .bytes))) (c .before .if1 .left), others-bare (a .name) (c .match .keys2) (now (a .bytes))) (ends (starts _ _ [] (omega arith) (omega arith)))
 
 pub put-items-spec : {M : Type 1} → statement M
 put-items-spec =
     tie.close
-    (tie.spec
-    Inv-loop
-    μ-loop
-    blanks-end-requires
-    optional-end-requires
-    blanks-end-requires-2
-    loop-holds
-    item-at-requires
-    enum-known-read
-    enum-told
-    same-length
-    returns
-    item-fields-requires
-    put-record-requires
-    blanks-end-requires-3
-    same-length-2
-    returns-2
-    loop-less
-    loop-again)
+    (tie.spec returns enum-told put-pattern-items-requires same-length returns-2 returns-3)

@@ -3,14 +3,15 @@ use native.Mathlib.Omega.{arith}
 use Prim.Native.Nat.{_≤_, _<_, _-_, _*_, _^_}
 use mathlib.Core.Path.{_≡_, refl, sym, _∙_}
 use Rattle.operand.proofs.Fractions.{six-digits, more-digits, scale-down}
+use Rattle.operand.specs.Times.{fractionDigits}
 use Rattle.operand.proofs.scaled.Statement.{statement}
 use Rattle.operand.proofs.scaled.Tie as tie
 
 abbrev Inv-loop : tie.InvT-loop
-Inv-loop n digits micros₀ k₀ micros k = (k ≤ 6) × (micros < 10 ^ k) × (micros * 10 ^ (6 - k) ≡ n * 10 ^ (6 - digits))
+Inv-loop n digits micros₀ k₀ micros k = (k ≤ fractionDigits) × (micros < 10 ^ k) × (micros * 10 ^ (fractionDigits - k) ≡ n * 10 ^ (fractionDigits - digits))
 
 abbrev μ-loop : tie.MeasureT-loop
-μ-loop n digits micros₀ k₀ micros k = 6 - k
+μ-loop n digits micros₀ k₀ micros k = fractionDigits - k
 
 loop-holds : tie.Need-loop-holds Inv-loop μ-loop
 loop-holds c = (c .pre .0, c .pre .1, refl)
@@ -31,8 +32,8 @@ loop-again c = let l = c .before .loop in
 
 returns : tie.Need-returns Inv-loop μ-loop
 returns c = let l = c .before .loop in
-    let e : l .k ≡ 6 = omega arith in
-    let x : l .micros * 10 ^ (6 - 6) ≡ l .micros = omega arith in
+    let e : l .k ≡ fractionDigits = omega arith in
+    let x : l .micros * 10 ^ (fractionDigits - fractionDigits) ≡ l .micros = omega arith in
     sym x ∙ (rw e at (l .inv .2))
 
 pub scaled-spec : {M : Type 1} → statement M

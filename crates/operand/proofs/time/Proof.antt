@@ -4,11 +4,11 @@ use mathlib.Core.Path.{_≡_}
 use mathlib.Core.Option.{none, some}
 use denote.Ref.{now}
 use lib.ListN.{drop}
-use Rattle.program.specs.Layout.{fieldsOf}
-use Rattle.program.specs.Compiling.{headOf}
+use Rattle.program.specs.Layout.{headFields}
+use Rattle.program.specs.Compiling.{headOf, itemsOf}
 use Rattle.operand.specs.Fronts.{read}
 use Rattle.operand.specs.Decimals.{number}
-use Rattle.operand.specs.Times.{comparison, timeOperand}
+use Rattle.operand.specs.Times.{secondsLimit, comparison, timeOperand}
 use Rattle.operand.specs.Tests.{meaning}
 use Rattle.operand.proofs.Numbers.{said-none, said-some, value-none, value-some}
 use Rattle.operand.proofs.time.Statement.{statement}
@@ -29,7 +29,7 @@ enum-told c = search needs
 returns : tie.Need-returns
 unfolding meaning timeOperand
 returns c = let s = now (c .before .before .before .before .before .args .bytes) in
-    let e : number 4294967296 (comparison s .rest) ≡ none = rw (← c .before .before .before .comparison .ensures .rest) (said-none s (c .before .before .number-at .ensures .said) (c .enum-told .given .1)) in
+    let e : number secondsLimit (comparison s .rest) ≡ none = rw (← c .before .before .before .comparison .ensures .rest) (said-none s (c .before .before .number-at .ensures .said) (c .enum-told .given .1)) in
     rw e
 
 fraction-requires : tie.Need-fraction-requires
@@ -45,17 +45,17 @@ returns-2 : tie.Need-returns-2
 unfolding meaning timeOperand
 returns-2 c = let s = now (c .before .before .before .before .before .before .before .before .before .args .bytes) in
     let g = c .before .before .before .before .seconds .given in
-    let e : number 4294967296 (comparison s .rest) ≡ some (read (g .0 .0) (drop (g .0 .1 .0) s)) = rw (← c .before .before .before .before .before .before .before .comparison .ensures .rest) (said-some s (c .before .before .before .before .before .before .number-at .ensures .said) (g .1)) in
+    let e : number secondsLimit (comparison s .rest) ≡ some (read (g .0 .0) (drop (g .0 .1 .0) s)) = rw (← c .before .before .before .before .before .before .before .comparison .ensures .rest) (said-some s (c .before .before .before .before .before .before .number-at .ensures .said) (g .1)) in
     rw (e, value-none (c .before .before .fraction .ensures) (c .enum-told2 .given .1))
 
 head-requires : tie.Need-head-requires
 head-requires c κs = search needs
 
 returns-3 : tie.Need-returns-3
-unfolding meaning timeOperand fieldsOf headOf
+unfolding meaning timeOperand headFields headOf itemsOf
 returns-3 c = let s = now (c .before .before .before .before .before .before .before .before .before .before .before .args .bytes) in
     let g = c .before .before .before .before .before .before .seconds .given in
-    let e : number 4294967296 (comparison s .rest) ≡ some (read (g .0 .0) (drop (g .0 .1 .0) s)) = rw (← c .before .before .before .before .before .before .before .before .before .comparison .ensures .rest) (said-some s (c .before .before .before .before .before .before .before .before .number-at .ensures .said) (g .1)) in
+    let e : number secondsLimit (comparison s .rest) ≡ some (read (g .0 .0) (drop (g .0 .1 .0) s)) = rw (← c .before .before .before .before .before .before .before .before .before .comparison .ensures .rest) (said-some s (c .before .before .before .before .before .before .before .before .number-at .ensures .said) (g .1)) in
     rw (c .head .ensures, c .before .before .before .before .before .before .before .before .before .comparison .ensures .code, e, value-some (c .before .before .before .before .fraction .ensures) (c .before .before .micros .given .1))
 
 pub time-spec : {M : Type 1} → statement M

@@ -6,7 +6,7 @@ use lib.ListN.{length, drop, length-drop}
 use lib.Seq.{drop-drop}
 use denote.Ref.{now}
 use Rattle.program.specs.Layout.{recordSize}
-use Rattle.program.specs.Validity.{allRightIn}
+use Rattle.program.specs.Checks.{allRightIn}
 use Rattle.program.proofs.Answers.{refused, passed}
 use Rattle.program.proofs.Walks.{right-checks, checks-end, checks-bad, checks-next}
 use Rattle.program.proofs.all_right.Statement.{statement}

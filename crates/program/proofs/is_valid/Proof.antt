@@ -5,8 +5,8 @@ use lib.ListN.{length, getD}
 use denote.Ref.{now}
 use borrow.Author.Needs.{needs}
 use borrow.Author.Tests.{eq-eqb, ne-eqb, le-leb, lt-leb}
-use Rattle.program.specs.Layout.{isTestKind}
-use Rattle.program.specs.Validity.{allRightIn, isValid}
+use Rattle.program.specs.Kinds.{classIs}
+use Rattle.program.specs.Checks.{isTestClass, allRightIn, isValid}
 use Rattle.program.proofs.Answers.{refused, passed}
 use Rattle.program.proofs.is_valid.Statement.{statement}
 use Rattle.program.proofs.is_valid.Tie as tie
@@ -16,7 +16,7 @@ right : (c : tie.Else4) → let s = now (c .before .before .before .before .befo
 right c = passed _ (c .before .all-right .ensures) (c .if4 .left)
 
 -- the first is a test
-begins : (c : tie.Else5) → isTestKind (getD (now (c .before .before .before .before .before .before .before .before .args .program)) 0 0) ≡ true
+begins : (c : tie.Else5) → isTestClass (classIs (getD (now (c .before .before .before .before .before .before .before .before .args .program)) 0 0)) ≡ true
 begins c = passed _ (c .before .starts .ensures) (c .if5 .left)
 
 returns : tie.Need-returns

@@ -6,7 +6,7 @@ use lib.ListN.{length, drop, length-drop}
 use lib.Seq.{drop-drop}
 use denote.Ref.{now}
 use Rattle.program.specs.Layout.{recordSize}
-use Rattle.program.specs.Validity.{landingIn}
+use Rattle.program.specs.Checks.{landingIn}
 use Rattle.program.proofs.Answers.{refused, passed}
 use Rattle.program.proofs.Walks.{landing-checks, checks-end, checks-bad, checks-next}
 use Rattle.program.proofs.landing.Statement.{statement}

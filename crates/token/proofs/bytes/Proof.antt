@@ -1,6 +1,6 @@
--- `token::bytes` meets its contract, one kind after another. Assumes nothing.
+-- `token::bytes` meets its contract, one sort after another. Assumes nothing.
 use borrow.Author.Needs.{needs}
-use Rattle.token.specs.Next.{bytesOfKind}
+use Rattle.token.specs.Next.{bytesOfSort}
 use Rattle.token.proofs.bytes.Statement.{statement}
 use Rattle.token.proofs.bytes.Tie as tie
 
@@ -47,31 +47,31 @@ slice-aggregate-result-5 : tie.Need-slice-aggregate-result-5
 slice-aggregate-result-5 c = search needs
 
 returns : tie.Need-returns
-unfolding bytesOfKind
+unfolding bytesOfSort
 returns c = rw (c .before .enum-told .given .1)
 
 returns-2 : tie.Need-returns-2
-unfolding bytesOfKind
+unfolding bytesOfSort
 returns-2 c = rw (c .before .enum-told2 .given .1)
 
 returns-3 : tie.Need-returns-3
-unfolding bytesOfKind
+unfolding bytesOfSort
 returns-3 c = rw (c .before .enum-told3 .given .1)
 
 returns-4 : tie.Need-returns-4
-unfolding bytesOfKind
+unfolding bytesOfSort
 returns-4 c = rw (c .before .enum-told4 .given .1)
 
 returns-5 : tie.Need-returns-5
-unfolding bytesOfKind
+unfolding bytesOfSort
 returns-5 c = rw (c .before .enum-told5 .given .1) (c .between .ensures)
 
 returns-6 : tie.Need-returns-6
-unfolding bytesOfKind
+unfolding bytesOfSort
 returns-6 c = rw (c .before .enum-told6 .given .1) (c .inside .ensures)
 
 returns-7 : tie.Need-returns-7
-unfolding bytesOfKind
+unfolding bytesOfSort
 returns-7 c = rw (c .before .enum-told7 .given .1)
 
 pub bytes-spec : {M : Type 1} → statement M

@@ -10,14 +10,14 @@ use lib.ListN.{length}
 use borrow.Author.Needs.{needs}
 use Rattle.token.specs.Next.{lexFrom, nextAt, unclosedIn, unclosedAt}
 use Rattle.token.specs.declared.Lexeme.{Lexeme}
-use Rattle.token.proofs.Kind.{the-type}
+use Rattle.token.proofs.Sort.{the-type}
 use Rattle.token.proofs.Nexts.{Searched, search-on, search-found, search-end}
 use Rattle.token.proofs.unclosed.Statement.{statement}
 use Rattle.token.proofs.unclosed.Tie as tie
 
--- the search goes on behind a lexeme whose kind has another tag
-goes-on : (text : List ℕ) (at : ℕ) {l : Lexeme} → l ≡ nextAt text at → at < length text → OneOf (0 ∷ 1 ∷ 2 ∷ 3 ∷ 4 ∷ 5 ∷ []) (tagOf the-type (l .kind)) → Searched text at l
-goes-on text at e h o = rw e (search-on text at h (λ k. miss (0 ∷ 1 ∷ 2 ∷ 3 ∷ 4 ∷ 5 ∷ []) 6 tt (rw (ap (λ (x : Lexeme). x .kind) e ∙ k) at o)))
+-- the search goes on behind a lexeme whose sort has another tag
+goes-on : (text : List ℕ) (at : ℕ) {l : Lexeme} → l ≡ nextAt text at → at < length text → OneOf (0 ∷ 1 ∷ 2 ∷ 3 ∷ 4 ∷ 5 ∷ []) (tagOf the-type (l .sort)) → Searched text at l
+goes-on text at e h o = rw e (search-on text at h (λ k. miss (0 ∷ 1 ∷ 2 ∷ 3 ∷ 4 ∷ 5 ∷ []) 6 tt (rw (ap (λ (x : Lexeme). x .sort) e ∙ k) at o)))
 
 abbrev Inv-loop : tie.InvT-loop
 Inv-loop text at₀ at = (at ≤ length text) × (unclosedIn (lexFrom text at) (length text) ≡ unclosedAt text)
@@ -38,7 +38,7 @@ returns : tie.Need-returns Inv-loop μ-loop
 returns c = let text = now (c .before .before .before .before .before .before .args .text) in
     let l = c .before .before .before .before .loop in
     let e = c .before .before .next .ensures in
-    ap (λ (x : Lexeme). x .start) e ∙ (search-found text (l .at) (sym (ap (λ (x : Lexeme). x .kind) e) ∙ c .enum-told .given .1) ∙ l .inv .1)
+    ap (λ (x : Lexeme). x .start) e ∙ (search-found text (l .at) (sym (ap (λ (x : Lexeme). x .sort) e) ∙ c .enum-told .given .1) ∙ l .inv .1)
 
 loop-less : tie.Need-loop-less Inv-loop μ-loop
 loop-less c = let text = now (c .before .before .before .before .before .args .text) in

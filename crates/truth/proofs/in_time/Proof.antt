@@ -5,7 +5,8 @@ use mathlib.Core.Path.{_≡_, ap₂, _∙_}
 use borrow.Author.Needs.{needs}
 use borrow.Author.Tests.{ne-eqb}
 use Rattle.program.specs.Readings.{Comparison, equal, below, atMost, above, atLeast}
-use Rattle.truth.specs.Means.{second, compares}
+use Rattle.program.specs.Records.{second}
+use Rattle.truth.specs.Means.{compares}
 use Rattle.truth.proofs.in_time.Statement.{statement}
 use Rattle.truth.proofs.in_time.Tie as tie
 
@@ -33,11 +34,13 @@ returns-4 : tie.Need-returns-4
 returns-4 c = rw (c .match .keys4) (compared (c .before) above)
 
 returns-5 : tie.Need-returns-5
-returns-5 c =
-    rw (ne-eqb _ _ (c .match .rest .0 .0 .0 .1), ne-eqb _ _ (c .match .rest .0 .0 .1), ne-eqb _ _ (c .match .rest .0 .1), ne-eqb _ _ (c .match .rest .1))
-    (compared (c .before) atLeast)
+returns-5 c = rw (c .match .keys5) (compared (c .before) atLeast)
+
+returns-6 : tie.Need-returns-6
+returns-6 c = let r = c .match .rest in
+    simp (ne-eqb _ _ (r .0 .0 .0 .0 .1), ne-eqb _ _ (r .0 .0 .0 .1), ne-eqb _ _ (r .0 .0 .1), ne-eqb _ _ (r .0 .1), ne-eqb _ _ (r .1))
 
 pub in-time-spec : {M : Type 1} → statement M
 in-time-spec =
     tie.close
-    (tie.spec micros-requires micros-requires-2 returns returns-2 returns-3 returns-4 returns-5)
+    (tie.spec micros-requires micros-requires-2 returns returns-2 returns-3 returns-4 returns-5 returns-6)

@@ -7,7 +7,7 @@ use denote.Ref.{now}
 use lib.ListN.{length}
 use Rattle.aspath.specs.declared.Item.{Item}
 use Rattle.aspath.specs.declared.Cursor.{Cursor}
-use Rattle.aspath.specs.Members.{Member}
+use Rattle.aspath.specs.Members.{Member, memberOf}
 use Rattle.aspath.specs.Wire.{widthBytes, membersOf}
 use Rattle.aspath.specs.Patterns.{matchesHere, matchesSome}
 use Rattle.aspath.specs.Cursors.{remaining}
@@ -37,7 +37,7 @@ answer k = sym (k .matches-here .ensures ∙ at-members _ _ _ _ _)
 
 -- the members from the cursor on are n and those after it
 here : (k : tie.After-next Inv-loop μ-loop) → let b = k .before .before .before .before .before in
-    from b (b .loop .c) ≡ k .next .given .0 .0 ∷ from b (k .next .given .0 .1 .0)
+    from b (b .loop .c) ≡ memberOf (k .next .given .0 .0) ∷ from b (k .next .given .0 .1 .0)
 here k = member-view _ _ _ (sym (k .before .before .member-at .ensures) ∙ k .next .given .1)
 
 loop-holds : tie.Need-loop-holds Inv-loop μ-loop

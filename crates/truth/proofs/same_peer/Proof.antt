@@ -16,5 +16,8 @@ returns-3 c = search (needs, ne-eqb)
 returns-4 : tie.Need-returns-4
 returns-4 c = search (needs, eq-eqb, ne-eqb)
 
+returns-5 : tie.Need-returns-5
+returns-5 c = search (needs, eq-eqb, ne-eqb)
+
 pub same-peer-spec : {M : Type 1} → statement M
-same-peer-spec = tie.close (tie.spec returns returns-2 returns-3 returns-4)
+same-peer-spec = tie.close (tie.spec returns returns-2 returns-3 returns-4 returns-5)

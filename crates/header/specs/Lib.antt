@@ -1,0 +1,2 @@
+-- What the header of a record is: where its fields stand.
+pub mod Header
