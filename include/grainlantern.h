@@ -80,7 +80,7 @@ enum grainlantern_judged {
     GRAINLANTERN_WRONG_FRAME = 14,      /* the BGP message's marker or length is wrong */
     GRAINLANTERN_WRONG_SECTIONS = 15,   /* the sections of an UPDATE don't fit */
     GRAINLANTERN_WRONG_ATTRIBUTES = 16, /* an attribute overruns, or a code comes twice */
-    GRAINLANTERN_WRONG_BODY = 17,       /* the body of ORIGIN, AS_PATH, NEXT_HOP or ATOMIC_AGGREGATE is wrong */
+    GRAINLANTERN_WRONG_BODY = 17,       /* the body of ORIGIN, AS_PATH, NEXT_HOP, ATOMIC_AGGREGATE, AGGREGATOR or COMMUNITY is wrong */
     GRAINLANTERN_WRONG_PREFIX = 18,     /* a prefix is wrong */
     GRAINLANTERN_SHORT_LINES = 19,      /* the record is kept, and its lines don't fit the buffer */
     GRAINLANTERN_WRONG_PROGRAM = 20,    /* the program isn't valid; one that grainlantern_compile wrote is */

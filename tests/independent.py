@@ -3,13 +3,14 @@
 
     independent.py FILTERFILE < RECORDS
 
-A second reading of the rules, written from document 01, RFC 4271 and RFC 6396 and from nothing in crates/: a filter becomes a function
-on a message, without a program. A text outside the grammar ends it with an error. The limits of level and weight, and the numbers and places
-of refusals, aren't its business.
+A second reading of the rules, written from document 01, request 1 of document 02, RFC 1997, RFC 4271 and RFC 6396 and from nothing in crates/: a
+filter becomes a function on a message, without a program. A text outside the grammar ends it with an error. The limits of level and weight, and
+the numbers and places of refusals, aren't its business.
 """
 
 import ipaddress
 import re
+import struct
 import sys
 from fractions import Fraction
 
@@ -29,7 +30,12 @@ ATTRIBUTES = {
     "AS4_AGGREGATOR": 18,
     "LARGE_COMMUNITY": 32,
 }
-ORIGIN, AS_PATH, NEXT_HOP, ATOMIC_AGGREGATE = 1, 2, 3, 6
+WELL_KNOWN = {
+    "NO_EXPORT": (65535, 65281),
+    "NO_ADVERTISE": (65535, 65282),
+    "NO_EXPORT_SUBCONFED": (65535, 65283),
+}
+ORIGIN, AS_PATH, NEXT_HOP, ATOMIC_AGGREGATE, AGGREGATOR, COMMUNITY = 1, 2, 3, 6, 7, 8
 UPDATE = 2
 AS_SET, AS_SEQUENCE = 1, 2
 BOGONS = [
@@ -109,6 +115,13 @@ def attributes(section):
     return found
 
 
+def community_text(pair):
+    for name, known in WELL_KNOWN.items():
+        if pair == known:
+            return name
+    return "{}:{}".format(*pair)
+
+
 class Message:
     """One record of BGP4MP_MESSAGE or BGP4MP_MESSAGE_AS4, taken apart."""
 
@@ -130,7 +143,7 @@ class Message:
         need(rest.number(2) == len(rest.data) + 18, "message length")
         self.type = rest.number(1)
         self.attributes, self.announced, self.withdrawn = {}, [], []
-        self.origin = self.segments = self.next_hop = None
+        self.origin = self.segments = self.next_hop = self.aggregator = self.communities = None
         if self.type == UPDATE:
             self.read_update(rest)
 
@@ -154,6 +167,13 @@ class Message:
                 self.next_hop = ipaddress.IPv4Address(body)
             elif code == ATOMIC_AGGREGATE:
                 need(not body, "ATOMIC_AGGREGATE")
+            elif code == AGGREGATOR:
+                need(len(body) == self.width + 4, "AGGREGATOR")
+                parts = Bytes(body)
+                self.aggregator = parts.number(self.width), parts.address()
+            elif code == COMMUNITY:
+                need(len(body) % 4 == 0, "COMMUNITY")
+                self.communities = list(struct.iter_unpack(">HH", body))
 
     def path(self):
         """The numbers of all segments in one list, or None without an AS_PATH."""
@@ -174,8 +194,8 @@ class Message:
                 "" if self.next_hop is None else str(self.next_hop),
                 "" if self.origin is None else "ie?"[self.origin],
                 "AT" if ATOMIC_AGGREGATE in self.attributes else "",
-                "",
-                "",
+                " ".join(map(str, self.aggregator or [])),
+                " ".join(map(community_text, self.communities or [])),
             ]
             text += "|".join(["+", " ".join(map(str, self.announced)), *fields, *end]) + "\n"
         if self.withdrawn:
@@ -317,6 +337,20 @@ def timestamp_test(text):
     return lambda m: compare(m.seconds)
 
 
+def community(text):
+    if text in WELL_KNOWN:
+        return WELL_KNOWN[text]
+    first, colon, second = text.partition(":")
+    if not colon:
+        raise BadFilter(f"not a community: {text}")
+    return number(first, 65536), number(second, 65536)
+
+
+def communities_test(text):
+    wanted = {community(word) for word in re.split("[ \t\n]+", text)}
+    return lambda m: m.communities is not None and wanted.issubset(m.communities)
+
+
 BARE_TESTS = {"-loops": loops, "-bogon-asn": bogon_asn}
 TESTS = {
     "-type": type_test,
@@ -328,6 +362,7 @@ TESTS = {
     "-subnet": network_test(lambda prefix, network: prefix.subnet_of(network)),
     "-related": network_test(lambda prefix, network: prefix.overlaps(network)),
     "-timestamp": timestamp_test,
+    "-communities": communities_test,
 }
 
 

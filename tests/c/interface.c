@@ -115,6 +115,8 @@ static void limits_of_texts(void)
     HOLDS(text_says("-loops )", 8, GRAINLANTERN_WRONG_TOKEN, 7));
     HOLDS(text_says("-type 255", 9, GRAINLANTERN_COMPILED, 16));
     HOLDS(text_says("-type 256", 9, GRAINLANTERN_WRONG_OPERAND, 6));
+    HOLDS(text_says("-communities 65535:65535", 24, GRAINLANTERN_COMPILED, 32));
+    HOLDS(text_says("-communities 65535:65536", 24, GRAINLANTERN_WRONG_OPERAND, 13));
 
     memset(filter, '!', GRAINLANTERN_LEVEL_LIMIT + 1);
     memcpy(filter + GRAINLANTERN_LEVEL_LIMIT + 1, "-loops", 6);
@@ -192,6 +194,9 @@ static void numbers_of_records(void)
     /* ORIGIN twice */
     HOLDS(slip_says(73, 1, GRAINLANTERN_WRONG_ATTRIBUTES));
     HOLDS(slip_says(58, 3, GRAINLANTERN_WRONG_BODY));
+    /* the 10 bytes of AS_PATH as a COMMUNITY, the 4 of NEXT_HOP as an AGGREGATOR */
+    HOLDS(slip_says(60, 8, GRAINLANTERN_WRONG_BODY));
+    HOLDS(slip_says(73, 7, GRAINLANTERN_WRONG_BODY));
     HOLDS(slip_says(79, 33, GRAINLANTERN_WRONG_PREFIX));
     HOLDS(record_says(record, sizeof record, GRAINLANTERN_KEPT, 1, 71));
     HOLDS(says(grainlantern_compile((const uint8_t *)"-peer 2428", 10, other, sizeof other, fresh(value)), GRAINLANTERN_COMPILED, value, 16, 0));

@@ -41,7 +41,7 @@ pub enum Next {
     End,
 }
 
-// An item of a pattern: a number, any number but it, any at all.
+// An item behind a test's record: a number, any number but it, any at all.
 pub enum Item {
     Number(u32),
     Other(u32),

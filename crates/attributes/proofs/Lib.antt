@@ -1,4 +1,5 @@
 -- Laws of path attributes. Assumes nothing.
+pub mod Aggregators
 pub mod AttributesExist
 pub mod ByCode
 pub mod Distinct

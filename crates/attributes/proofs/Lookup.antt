@@ -13,12 +13,15 @@ use Rattle.octets.specs.Choice.{pick, orElse}
 use Rattle.octets.specs.Numbers.{numberAt}
 use Rattle.octets.specs.Rows.{itemsIn}
 use Rattle.aspath.specs.Wire.{segmentsOf}
+use Rattle.network.specs.Networks.{addressSize}
+use Rattle.communities.specs.Communities.{communitiesOf}
 use Rattle.attributes.specs.declared.Found.{Found}
 use Rattle.attributes.specs.declared.Found.the-variants.{At, Absent}
-use Rattle.attributes.specs.Attribute.{Attribute, firstOf, askOrigin, askPath, askNextHop, askAtomic, originCode, asPathCode, nextHopCode, atomicAggregateCode, nextHopSize}
+use Rattle.attributes.specs.Attribute.{Attribute, firstOf, askOrigin, askPath, askNextHop, askAtomic, askAggregator, askCommunities}
+use Rattle.attributes.specs.Attribute.{originCode, asPathCode, nextHopCode, atomicAggregateCode, aggregatorCode, communitiesCode}
 use Rattle.attributes.specs.Wire.{Raw, attributeSize, rawOf, rawsOf, codes}
 use Rattle.attributes.specs.Codes.{elem}
-use Rattle.attributes.specs.Bodies.{said, attributesOf}
+use Rattle.attributes.specs.Bodies.{aggregatorOf, said, attributesOf}
 use Rattle.attributes.specs.Finding.{firstBody, bodyAt, findIn, findOf}
 use Rattle.attributes.proofs.ByCode.{by-code, said-other}
 
@@ -91,27 +94,45 @@ module _ {A : Type 0} {w : ℕ} {ask : Attribute → Option A} {give : List ℕ 
   pub first-found : (s : List ℕ) → firstOf ask (attributesOf w s) ≡ Option·map give (bodyAt s (findOf code s))
   first-found s = first-said (rawsOf s) ∙ ap (Option·map give) (sym (find-body code s))
 
--- the four that are asked
+-- the six that are asked
 pub asks-origin : (w : ℕ) → Asks w askOrigin (λ body. getD body 0 0) originCode
 unfolding said askOrigin
 asks-origin w = record {
-  answers = by-code (λ body. refl) (λ body. refl) (λ body. refl) (λ body. refl) (λ r u. rw (said-other w r u) (simp (ne-eqb _ _ (u .no-origin))));
+  answers = by-code (λ body. refl) (λ body. refl) (λ body. refl) (λ body. refl) (λ body. refl) (λ body. refl)
+      (λ r u. rw (said-other w r u) (simp (ne-eqb _ _ (u .no-origin))));
 }
 
 pub asks-path : (w : ℕ) → Asks w askPath (segmentsOf w) asPathCode
 unfolding said askPath
 asks-path w = record {
-  answers = by-code (λ body. refl) (λ body. refl) (λ body. refl) (λ body. refl) (λ r u. rw (said-other w r u) (simp (ne-eqb _ _ (u .no-path))));
+  answers = by-code (λ body. refl) (λ body. refl) (λ body. refl) (λ body. refl) (λ body. refl) (λ body. refl)
+      (λ r u. rw (said-other w r u) (simp (ne-eqb _ _ (u .no-path))));
 }
 
-pub asks-next-hop : (w : ℕ) → Asks w askNextHop (λ body. numberAt body 0 nextHopSize) nextHopCode
+pub asks-next-hop : (w : ℕ) → Asks w askNextHop (λ body. numberAt body 0 addressSize) nextHopCode
 unfolding said askNextHop
 asks-next-hop w = record {
-  answers = by-code (λ body. refl) (λ body. refl) (λ body. refl) (λ body. refl) (λ r u. rw (said-other w r u) (simp (ne-eqb _ _ (u .no-next-hop))));
+  answers = by-code (λ body. refl) (λ body. refl) (λ body. refl) (λ body. refl) (λ body. refl) (λ body. refl)
+      (λ r u. rw (said-other w r u) (simp (ne-eqb _ _ (u .no-next-hop))));
 }
 
 pub asks-atomic : (w : ℕ) → Asks w askAtomic (λ body. tt) atomicAggregateCode
 unfolding said askAtomic
 asks-atomic w = record {
-  answers = by-code (λ body. refl) (λ body. refl) (λ body. refl) (λ body. refl) (λ r u. rw (said-other w r u) (simp (ne-eqb _ _ (u .no-atomic))));
+  answers = by-code (λ body. refl) (λ body. refl) (λ body. refl) (λ body. refl) (λ body. refl) (λ body. refl)
+      (λ r u. rw (said-other w r u) (simp (ne-eqb _ _ (u .no-atomic))));
+}
+
+pub asks-aggregator : (w : ℕ) → Asks w askAggregator (aggregatorOf w) aggregatorCode
+unfolding said askAggregator
+asks-aggregator w = record {
+  answers = by-code (λ body. refl) (λ body. refl) (λ body. refl) (λ body. refl) (λ body. refl) (λ body. refl)
+      (λ r u. rw (said-other w r u) (simp (ne-eqb _ _ (u .no-aggregator))));
+}
+
+pub asks-communities : (w : ℕ) → Asks w askCommunities communitiesOf communitiesCode
+unfolding said askCommunities
+asks-communities w = record {
+  answers = by-code (λ body. refl) (λ body. refl) (λ body. refl) (λ body. refl) (λ body. refl) (λ body. refl)
+      (λ r u. rw (said-other w r u) (simp (ne-eqb _ _ (u .no-communities))));
 }

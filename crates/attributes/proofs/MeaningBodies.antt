@@ -11,11 +11,13 @@ use Rattle.octets.specs.Lists.{Every, every-more, some-here, some-there}
 use Rattle.octets.proofs.Bytes.{octets-take, octets-drop}
 use Rattle.octets.proofs.Rows.{joined-whole, joined-items, whole-joined}
 use Rattle.aspath.proofs.SegmentReads.{segment-reads}
-use Rattle.attributes.specs.Attribute.{Attribute, origin, asPath, nextHop, atomicAggregate, other, codeOf, incomplete}
+use Rattle.communities.proofs.Bodies.{community-reads}
+use Rattle.attributes.specs.Attribute.{Attribute, origin, asPath, nextHop, atomicAggregate, aggregator, communities, other, codeOf, incomplete}
 use Rattle.attributes.specs.Wire.{Raw, attributeHeader, bodySize, attributeSize, rawOf, rawsOf}
 use Rattle.attributes.specs.Bodies.{HasBody, Says, SomeWrong, bodyRight, allRight, said}
 use Rattle.octets.proofs.Choices.{never, each, alike}
 use Rattle.octets.proofs.Items.{items-every}
+use Rattle.attributes.proofs.Aggregators.{aggregator-sound, aggregator-long, aggregator-same}
 use Rattle.attributes.proofs.ByCode.{by-code, said-other, right-other}
 
 -- ---- all bodies are bytes
@@ -46,6 +48,8 @@ module _ (w : ℕ) where
       (λ body h o. record { coded = refl; body = whole-joined (segment-reads w) o h })
       (λ body h o. record { coded = refl; body = record { long = eqb-true _ _ h; octets = o; value = refl } })
       (λ body h o. record { coded = refl; body = drop-of-length-le body {i = 0} (omega (arith, eqb-true (length body) 0 h)) })
+      (λ body h o. record { coded = refl; body = aggregator-sound w o (eqb-true _ _ h) })
+      (λ body h o. record { coded = refl; body = whole-joined community-reads o h })
       (λ r u h o. rw (said-other w r u) (record { coded = refl; body = (u, refl) }))
 
   right-of : (a : Attribute) (r : Raw) → codeOf a ≡ r .code → HasBody w a (r .body) → bodyRight w (r .code) (r .body) ≡ true
@@ -54,6 +58,8 @@ module _ (w : ℕ) where
   right-of (asPath ss) r e b = rw (← e) (joined-whole (segment-reads w) b)
   right-of (nextHop a) r e b = rw (← e) (eq-eqb _ _ (b .long))
   right-of atomicAggregate r e b = rw (← e, b)
+  right-of (aggregator a) r e b = rw (← e) (eq-eqb _ _ (aggregator-long w b))
+  right-of (communities cs) r e b = rw (← e) (joined-whole community-reads b)
   right-of (other code bytes) r e b = rw (← e) (right-other w code (r .body) (b .0))
 
   -- the body of a raw attribute that says an attribute is right
@@ -66,6 +72,8 @@ module _ (w : ℕ) where
   said-of (asPath ss) r e b = rw (← e) (ap asPath (joined-items (segment-reads w) b))
   said-of (nextHop a) r e b = rw (← e) (ap nextHop (b .value))
   said-of atomicAggregate r e b = rw (← e)
+  said-of (aggregator a) r e b = rw (← e) (ap aggregator (aggregator-same w b))
+  said-of (communities cs) r e b = rw (← e) (ap communities (joined-items community-reads b))
   said-of (other code bytes) r e b = said-other w r (rw e at b .0) ∙ cc
 
   -- and that attribute is what is read of it

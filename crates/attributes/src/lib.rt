@@ -20,6 +20,10 @@ pub const NEXT_HOP: u8 = 3;
 
 pub const ATOMIC_AGGREGATE: u8 = 6;
 
+pub const AGGREGATOR: u8 = 7;
+
+pub const COMMUNITY: u8 = 8;
+
 // The values of an ORIGIN.
 pub const IGP: u32 = 0;
 
@@ -28,8 +32,6 @@ pub const EGP: u32 = 1;
 pub const INCOMPLETE: u32 = 2;
 
 pub const ORIGIN_SIZE: usize = 1;
-
-pub const NEXT_HOP_SIZE: usize = 4;
 
 // The flag that makes an attribute's length two bytes.
 const EXTENDED_LENGTH: u32 = 0x10;
@@ -124,7 +126,8 @@ pub fn sound(s: &[u8]) -> bool
     true
 }
 
-// Whether the body of an attribute is as its code asks: ORIGIN, AS_PATH, NEXT_HOP and ATOMIC_AGGREGATE are looked at, others are free.
+// Whether the body of an attribute is as its code asks: ORIGIN, AS_PATH, NEXT_HOP, ATOMIC_AGGREGATE, AGGREGATOR and COMMUNITY are
+// looked at, others are free.
 fn body_right(code: u8, body: &[u8], width: Width) -> bool
     ensures { λ r. ⌜ r ≡ bodyRight (widthBytes width) code (now (body .entry)) ⌝ }
 {
@@ -136,8 +139,10 @@ fn body_right(code: u8, body: &[u8], width: Width) -> bool
             body[0] as u32 <= INCOMPLETE
         }
         AS_PATH => aspath::well_formed(body, width),
-        NEXT_HOP => body.len() == NEXT_HOP_SIZE,
+        NEXT_HOP => body.len() == network::ADDRESS_SIZE,
         ATOMIC_AGGREGATE => body.len() == 0,
+        AGGREGATOR => body.len() == aspath::width_bytes(width) + network::ADDRESS_SIZE,
+        COMMUNITY => communities::well_formed(body),
         _ => true,
     }
 }

@@ -25,7 +25,7 @@ vocabulary-possible : Every (λ (e : Row Role). RolePossible (e .value)) vocabul
 unfolding vocabulary
 vocabulary-possible =
     every-more tt (every-more tt (every-more tt (every-more tt (every-more tt (every-more tt (every-more tt (every-more tt
-    (every-more tt (every-more tt (every-more tt (every-more tt (every-more tt every-none))))))))))))
+    (every-more tt (every-more tt (every-more tt (every-more tt (every-more tt (every-more tt every-none)))))))))))))
 
 -- every test of a derived reading is possible
 pub reads-possible : {p : Part} {ts : List Token} {r : Reading} → Reads p ts r → PossibleReading r

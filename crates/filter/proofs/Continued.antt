@@ -11,7 +11,7 @@ use Rattle.token.specs.Texts.{space, Allowed}
 use Rattle.token.specs.Tokens.{word, Placed, Lexes, blanks}
 use Rattle.token.proofs.Lexing.{lexes-append}
 use Rattle.operand.specs.declared.Name.{Name}
-use Rattle.operand.specs.declared.Name.the-variants.{MessageType as typeName, Attribute as attributeName, Path as pathName, Peer as peerName, Time as timeName, Network as networkName}
+use Rattle.operand.specs.declared.Name.the-variants.{MessageType as typeName, Attribute as attributeName, Path as pathName, Peer as peerName, Time as timeName, Network as networkName, Communities as communitiesName}
 use Rattle.operand.proofs.Samples.{sampleText}
 use Rattle.filter.specs.Grammar.{Part, expression, Reads}
 use Rattle.filter.specs.Answers.{Alive, bare}
@@ -51,6 +51,7 @@ sample-proper attributeName = (omega arith, wordly-sound (sampleText attributeNa
 sample-proper pathName = (omega arith, wordly-sound (sampleText pathName) refl)
 sample-proper peerName = (omega arith, wordly-sound (sampleText peerName) refl)
 sample-proper timeName = (omega arith, wordly-sound (sampleText timeName) refl)
+sample-proper communitiesName = (omega arith, wordly-sound (sampleText communitiesName) refl)
 sample-proper (networkName r) = (omega arith, wordly-sound (sampleText (networkName r)) refl)
 
 closing-proper : (s : ReaderState) → Every Proper (closing s)

@@ -11,7 +11,7 @@ use Rattle.octets.proofs.Choices.{never}
 use Rattle.octets.proofs.Every.{every-append, every-place}
 use Rattle.aspath.specs.declared.Item.the-variants.{Any}
 use Rattle.program.specs.Readings.{Test, pathMatches, hasLoop, itemCount, Operator, and, or, Reading, test, neg, joint, weight}
-use Rattle.program.specs.Records.{Head, type, attribute, path, peer, loops, bogon, network, time, PossibleHead}
+use Rattle.program.specs.Records.{Head, type, attribute, path, peer, loops, bogon, network, time, communities, PossibleHead}
 use Rattle.program.specs.Records.{Record, head, item, flip, pass, weightLimit, Possible}
 use Rattle.program.specs.Layout.{recordSize}
 use Rattle.program.specs.Compiling.{headOf, itemsOf, records}
@@ -26,7 +26,7 @@ use Rattle.filter.proofs.Counts.{levels}
 use Rattle.filter.specs.Answers.{TextAnswers, compiles, compiled}
 use Rattle.filter.specs.Given.{Given}
 use Rattle.filter.proofs.CompiledValid.{reads-possible}
-use Rattle.filter.proofs.OperandTexts.{Meant, type-meant, attribute-meant, peer-meant, network-meant, time-meant, dotted, dotted-meant, alone, alone-meant}
+use Rattle.filter.proofs.OperandTexts.{Meant, type-meant, attribute-meant, peer-meant, network-meant, time-meant, communities-meant, dotted, dotted-meant, alone, alone-meant}
 use Rattle.filter.proofs.Sayings.{Written, said-written, Said, loop-said, bogon-said, join-said, nameMost, name-said}
 use Rattle.filter.proofs.Spelling.{Proper, spelled, spell, spell-append, spelled-compiles}
 
@@ -139,6 +139,8 @@ shown loops p = shows (flag-factor loop-said) refl (omega arith) (omega arith)
 shown bogon p = shows (flag-factor bogon-said) refl (omega arith) (omega arith)
 shown (network r n s) p = shows (test-factor (network-meant r s p)) refl (omega arith) (omega arith)
 shown (time c s m) p = shows (test-factor (time-meant c p)) refl (omega arith) (omega arith)
+shown (communities n) p =
+    shows (test-factor (communities-meant p)) (ap communities (length-replicate {A = ℕ} n 0)) (omega (arith, p .few)) (omega (arith, p .few, length-replicate {A = ℕ} n 0))
 
 -- so it is given
 head-given : {h : Head} → Shown h → Given (head h)

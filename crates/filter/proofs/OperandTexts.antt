@@ -14,11 +14,11 @@ use Rattle.network.specs.Text.{addressText}
 use Rattle.aspath.specs.declared.Item.{Item}
 use Rattle.aspath.specs.declared.Item.the-variants.{Number, Other, Any}
 use Rattle.aspath.specs.Patterns.{Pattern}
-use Rattle.program.specs.Readings.{Peer, byAs, byAddress, byBoth, Side, eitherSide, announced, withdrawn, Comparison, equal, below, atMost, above, atLeast, Test, typeIs, hasAttribute, pathMatches, peerIs, networkIs, timeIs}
-use Rattle.program.specs.Records.{Code, ItemPossible, PeerPossible, NetworkPossible, PathPossible, TimePossible}
+use Rattle.program.specs.Readings.{Peer, byAs, byAddress, byBoth, Side, eitherSide, announced, withdrawn, Comparison, equal, below, atMost, above, atLeast, Test, typeIs, hasAttribute, pathMatches, peerIs, networkIs, timeIs, hasCommunities}
+use Rattle.program.specs.Records.{Code, ItemPossible, PeerPossible, NetworkPossible, PathPossible, CommunitiesPossible, TimePossible}
 use Rattle.token.specs.Texts.{space}
 use Rattle.operand.specs.declared.Name.{Name}
-use Rattle.operand.specs.declared.Name.the-variants.{MessageType as typeName, Attribute as attributeName, Path as pathName, Peer as peerName, Time as timeName, Network as networkName}
+use Rattle.operand.specs.declared.Name.the-variants.{MessageType as typeName, Attribute as attributeName, Path as pathName, Peer as peerName, Time as timeName, Network as networkName, Communities as communitiesName}
 use Rattle.operand.specs.Decimals.{byteLimit, Digits, end}
 use Rattle.operand.specs.Decimals as decimals
 use Rattle.names.specs.Tables.{Row}
@@ -27,11 +27,12 @@ use Rattle.operand.specs.Codes.{CodeOperand, by-code}
 use Rattle.operand.specs.Addresses.{NetworkText, plain, plus, minus}
 use Rattle.operand.specs.Peers.{by-as, by-address, by-both}
 use Rattle.operand.specs.Patterns.{ItemText, a-number, not-it, any}
+use Rattle.operand.specs.Communities.{CommunityText}
 use Rattle.operand.specs.Parted.{PartedText, empty, last}
 use Rattle.operand.specs.Parted as parted
 use Rattle.operand.specs.Times.{secondsLimit, ComparisonText, unsigned, less, at-most, greater, at-least, FractionText, fraction}
-use Rattle.operand.specs.Tests.{StandsFor, type, attribute, path, peer, network, time}
-use Rattle.operand.proofs.Samples.{unspaced}
+use Rattle.operand.specs.Tests.{StandsFor, type, attribute, path, peer, network, time, communities}
+use Rattle.operand.proofs.Samples.{zero-community, unspaced}
 use Rattle.filter.proofs.Spelling.{Plain}
 use Rattle.filter.proofs.DecimalTexts.{Quotable, isPlain, digit-plain, nothing, before, join, shorter, decimal-is, as-number-is, decimal-quotable, address-is, address-quotable}
 
@@ -102,6 +103,27 @@ peer-meant (byBoth a n) (v, w) =
     meant (peer (by-both {gap = 32 ∷ []} (address-is a (v .below)) (every-more space every-none) (omega arith) (as-number-is n (w .below)) refl))
     (join (address-quotable a (v .below)) (before 32 refl (decimal-quotable n (w .below))))
 
+-- ---- so many times one text with a space between
+
+repeated : List ℕ → ℕ → List ℕ
+repeated w zero = []
+repeated w (suc zero) = w
+repeated w (suc (suc n)) = w ++ (32 ∷ repeated w (suc n))
+
+-- each says the same
+repeated-parted : {A : Type 0} (R : List ℕ → A → Type 0) {w : List ℕ} {x : A} → R w x → (n : ℕ) → PartedText R (repeated w n) (replicate n x)
+unfolding repeated
+repeated-parted R t zero = empty
+repeated-parted R t (suc zero) = last t
+repeated-parted R t (suc (suc n)) = parted.more {gap = 32 ∷ []} t (every-more space every-none) (omega arith) (repeated-parted R t (suc n)) refl
+
+-- they can be quoted
+repeated-quotable : {most : ℕ} {w : List ℕ} → Quotable most w → (n : ℕ) → Quotable (suc most * n) (repeated w n)
+unfolding repeated
+repeated-quotable {most} q zero = shorter (suc most * 0) (omega arith) nothing
+repeated-quotable {most} q (suc zero) = shorter (suc most * 1) (omega arith) q
+repeated-quotable {most} q (suc (suc n)) = shorter (suc most * suc (suc n)) (omega arith) (join q (before 32 refl (repeated-quotable q (suc n))))
+
 -- ---- patterns
 
 -- `^` or `$`, or neither
@@ -115,26 +137,6 @@ pattern-meant : (p : Pattern) {most : ℕ} {text : List ℕ} → PartedText Item
 pattern-meant p {most} {text} i q f =
     meant (path (unspaced p i f)) (shorter (most + 2) (omega arith) (join (mark-quotable (p .start) 94 refl) (join q (join (mark-quotable (p .end) 36 refl) nothing))))
 
--- so many `.` with a space between
-dots : ℕ → List ℕ
-dots zero = []
-dots (suc zero) = 46 ∷ []
-dots (suc (suc n)) = 46 ∷ 32 ∷ dots (suc n)
-
--- each is any member
-dots-items : (n : ℕ) → PartedText ItemText (dots n) (replicate n Any)
-unfolding dots
-dots-items zero = empty
-dots-items (suc zero) = last any
-dots-items (suc (suc n)) = parted.more {gap = 32 ∷ []} any (every-more space every-none) (omega arith) (dots-items (suc n)) refl
-
--- they can be quoted
-dots-quotable : (n : ℕ) → Quotable (2 * n) (dots n)
-unfolding dots
-dots-quotable zero = nothing
-dots-quotable (suc zero) = before 46 refl (shorter 1 (omega arith) nothing)
-dots-quotable (suc (suc n)) = shorter (2 * suc (suc n)) (omega arith) (before 46 refl (before 32 refl (dots-quotable (suc n))))
-
 -- a pattern of so many items, `^` and `$` as they come
 abbrev pub dotted : Bool → Bool → ℕ → Pattern
 dotted s e n = record { start = s; items = replicate n Any; end = e }
@@ -142,7 +144,7 @@ dotted s e n = record { start = s; items = replicate n Any; end = e }
 -- that many `.` mean it
 pub dotted-meant : {s e : Bool} {n : ℕ} → PathPossible s e n → Meant pathName (2 * n + 2) (pathMatches (dotted s e n))
 dotted-meant {s} {e} {n} p =
-    pattern-meant (dotted s e n) (dots-items n) (dots-quotable n)
+    pattern-meant (dotted s e n) (repeated-parted ItemText any n) (repeated-quotable (before 46 refl nothing) n)
     (λ a b i. p .some a b (sym (length-replicate n Any) ∙ ap length i))
 
 -- a pattern of one item
@@ -158,6 +160,14 @@ pub alone-meant : (i : Item) → ItemPossible i → Meant pathName 13 (pathMatch
 alone-meant (Number n) w = one-meant (a-number (as-number-is n (w .below))) (shorter 11 (omega arith) (decimal-quotable n (w .below)))
 alone-meant (Other n) w = one-meant (not-it (as-number-is n (w .below))) (before 33 refl (decimal-quotable n (w .below)))
 alone-meant Any w = one-meant any (shorter 11 (omega arith) (before 46 refl nothing))
+
+-- ---- communities
+
+-- that many `0:0`
+pub communities-meant : {n : ℕ} → CommunitiesPossible n → Meant communitiesName (4 * n) (hasCommunities (replicate n 0))
+communities-meant {n} p =
+    meant (communities (record { parted = repeated-parted CommunityText zero-community n; some = omega (arith, p .some, length-replicate {A = ℕ} n 0) }))
+    (repeated-quotable (before 48 refl (before 58 refl (before 48 refl nothing))) n)
 
 -- ---- times
 

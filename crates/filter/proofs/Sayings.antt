@@ -8,12 +8,13 @@ use lib.Dec.{leb}
 use lib.ListN.{length, getD}
 use borrow.Author.Tests.{leb-true}
 use Rattle.octets.specs.Choice.{pick}
-use Rattle.octets.specs.Lists.{Every, every-none, every-more}
+use Rattle.octets.specs.Lists.{Every, every-none, every-more, everyPasses}
 use Rattle.octets.proofs.Choices.{each}
+use Rattle.octets.proofs.Every.{all-sound}
 use Rattle.network.specs.declared.Relation.the-variants.{Exact, Supernet, Subnet, Related}
 use Rattle.program.specs.Readings.{hasLoop, hasBogon, Operator, and, or}
 use Rattle.operand.specs.declared.Name.{Name}
-use Rattle.operand.specs.declared.Name.the-variants.{MessageType as typeName, Attribute as attributeName, Path as pathName, Peer as peerName, Time as timeName, Network as networkName}
+use Rattle.operand.specs.declared.Name.the-variants.{MessageType as typeName, Attribute as attributeName, Path as pathName, Peer as peerName, Time as timeName, Network as networkName, Communities as communitiesName}
 use Rattle.filter.specs.Words.{Role, joins, flag, name, vocabulary, Says}
 use Rattle.names.specs.Tables.{Row}
 use Rattle.names.proofs.Finding.{in-each, in-place}
@@ -42,10 +43,8 @@ writable w = pick (leb 1 (length w)) (wordly w) false
 
 -- so it is with every row
 all-writable : Every (λ (e : Row Role). writable (e .word) ≡ true) vocabulary
-unfolding vocabulary writable wordly
-all-writable =
-    every-more refl (every-more refl (every-more refl (every-more refl (every-more refl (every-more refl (every-more refl (every-more refl
-    (every-more refl (every-more refl (every-more refl (every-more refl (every-more refl every-none))))))))))))
+unfolding everyPasses vocabulary writable wordly
+all-writable = all-sound (λ (e : Row Role) t. t) refl
 
 -- a word of the language: its bytes, and one at least
 pub record Written (w : List ℕ) : Type 0 where
@@ -95,6 +94,7 @@ nameMost pathName = 7
 nameMost peerName = 5
 nameMost (networkName r) = 9
 nameMost timeName = 10
+nameMost communitiesName = 12
 
 -- the names of tests
 pub name-said : (k : Name) → Said (nameMost k) (name k)
@@ -108,3 +108,4 @@ name-said (networkName Supernet) = row-said 9 (omega arith) (omega arith)
 name-said (networkName Subnet) = row-said 10 (omega arith) (omega arith)
 name-said (networkName Related) = row-said 11 (omega arith) (omega arith)
 name-said timeName = row-said 12 (omega arith) (omega arith)
+name-said communitiesName = row-said 13 (omega arith) (omega arith)

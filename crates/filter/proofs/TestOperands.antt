@@ -4,8 +4,9 @@ use native.Mathlib.Omega.{arith}
 use mathlib.Core.Path.{_≡_, refl, ap}
 use mathlib.Core.Bool.{true}
 use mathlib.Core.Option.{Option, some, none}
-use mathlib.Core.List.{List}
+use mathlib.Core.List.{List, map}
 use lib.ListN.{length, length-append, length-map}
+use Rattle.aspath.specs.declared.Item.the-variants.{Number}
 use Rattle.program.specs.declared.Fields.{Fields}
 use Rattle.program.specs.Readings.{Test}
 use Rattle.program.specs.Records.{item}
@@ -25,9 +26,10 @@ use borrow.Author.Tests.{le-ltb}
 use Rattle.octets.proofs.Choices.{never}
 use Rattle.operand.specs.declared.Name.{Name}
 use Rattle.operand.specs.declared.Meant.the-variants.{Head, Broken}
-use Rattle.operand.specs.Tests.{StandsFor, type, attribute, path, peer, network, time, meaning, operandMeaning, meantOf}
+use Rattle.operand.specs.Tests.{StandsFor, type, attribute, path, peer, network, time, communities, meaning, operandMeaning, meantOf}
 use Rattle.operand.proofs.PartedLaws.{parted-short}
 use Rattle.operand.proofs.OperandItems.{item-reads}
+use Rattle.operand.proofs.OperandCommunities.{community-reads}
 
 -- a token whose bytes decide where an operand is wanted
 pub record Offered (text : List ℕ) (o : Lexeme) : Type 0 where
@@ -86,3 +88,4 @@ means-few (path {p = p} y) = omega (arith, length-map (p .items) item, parted-sh
 means-few (peer y) = omega arith
 means-few (network y) = omega arith
 means-few (time y) = omega arith
+means-few (communities {cs = cs} y) = omega (arith, length-map (map Number cs) item, length-map cs Number, parted-short community-reads (y .parted))

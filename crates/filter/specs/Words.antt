@@ -6,7 +6,7 @@ use Rattle.network.specs.declared.Relation.the-variants.{Exact, Supernet, Subne
 use Rattle.program.specs.Readings.{Test, hasLoop, hasBogon, Operator, and, or}
 use Rattle.operand.specs.declared.Name.{Name}
 use Rattle.operand.specs.declared.Name.the-variants.{MessageType as typeName, Attribute as attributeName, Path as pathName}
-use Rattle.operand.specs.declared.Name.the-variants.{Peer as peerName, Time as timeName, Network as networkName}
+use Rattle.operand.specs.declared.Name.the-variants.{Peer as peerName, Time as timeName, Network as networkName, Communities as communitiesName}
 use Rattle.names.specs.Tables.{Row, row, In, found}
 
 -- what a word says where a factor or a joint may stand
@@ -31,6 +31,7 @@ vocabulary =
     ∷ row (45 ∷ 115 ∷ 117 ∷ 98 ∷ 110 ∷ 101 ∷ 116 ∷ []) (name (networkName Subnet))  -- -subnet
     ∷ row (45 ∷ 114 ∷ 101 ∷ 108 ∷ 97 ∷ 116 ∷ 101 ∷ 100 ∷ []) (name (networkName Related))  -- -related
     ∷ row (45 ∷ 116 ∷ 105 ∷ 109 ∷ 101 ∷ 115 ∷ 116 ∷ 97 ∷ 109 ∷ 112 ∷ []) (name timeName)  -- -timestamp
+    ∷ row (45 ∷ 99 ∷ 111 ∷ 109 ∷ 109 ∷ 117 ∷ 110 ∷ 105 ∷ 116 ∷ 105 ∷ 101 ∷ 115 ∷ []) (name communitiesName)  -- -communities (request 1)
     ∷ []
 
 -- the word stands in the vocabulary, with this role

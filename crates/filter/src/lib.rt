@@ -105,6 +105,9 @@ fn test_name(word: &[u8]) -> Role
     if octets::same(word, b"-timestamp") {
         return Role::Named(Name::Time);
     }
+    if octets::same(word, b"-communities") {
+        return Role::Named(Name::Communities);
+    }
     Role::Unknown
 }
 

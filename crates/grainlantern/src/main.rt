@@ -2,7 +2,6 @@
 ghost use mathlib.Core.Path.{_≡_};
 ghost use Prim.Native.Nat.{_≤_};
 ghost use lib.ListN.{length};
-ghost use Rattle.octets.specs.Writes.{Written};
 ghost use Rattle.grainlantern.specs.Refusal.{refusalText, RefusedAt};
 ghost use Rattle.grainlantern.specs.Output.{Lent, keptLines, OfRun};
 use filter::Compiled;
@@ -48,27 +47,14 @@ fn read_filter(text: &mut [u8]) -> usize {
     read
 }
 
-// Writes bytes where the buffer reaches that far, and answers the next place.
-fn put_bytes(out: &mut [u8], at: usize, bytes: &[u8]) -> usize
-    ensures { λ r. ⌜ Written (now (out .entry)) at (now (bytes .entry)) (now (out .exit)) r ⌝ }
-{
-    let mut place = at;
-    let mut i = 0;
-    while i < bytes.len() {
-        place = octets::put(out, place, bytes[i]);
-        i += 1;
-    }
-    place
-}
-
 // The text of a refusal, written over the start of a buffer.
 fn refusal_text<'a>(out: &'a mut [u8], number: u32, place: u32) -> &'a [u8]
     requires { ⌜ 33 ≤ length (now out) ⌝ }
     ensures { λ r. ⌜ now r ≡ refusalText number place ⌝ }
 {
-    let at = put_bytes(out, 0, b"refused ");
+    let at = octets::put_bytes(out, 0, b"refused ");
     let at = octets::put_decimal(out, at, number);
-    let at = put_bytes(out, at, b" at ");
+    let at = octets::put_bytes(out, at, b" at ");
     let at = octets::put_decimal(out, at, place);
     let end = octets::put(out, at, b'\n');
     let whole = &out[..];

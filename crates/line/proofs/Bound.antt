@@ -9,13 +9,13 @@ use lib.Dec.{ltb, eqb}
 use lib.ListN.{length, take, drop, length-append, length-take, length-drop}
 use borrow.Author.Tests.{ltb-false, leb-true}
 use Rattle.octets.specs.Choice.{pick}
-use Rattle.octets.specs.Numbers.{Octets}
+use Rattle.octets.specs.Numbers.{Octets, numberAt}
 use Rattle.octets.specs.Rows.{itemsIn}
 use Rattle.octets.proofs.Bytes.{octets-none, octets-take, octets-drop}
 use Rattle.octets.proofs.Choices.{never, second-chosen}
 use Rattle.octets.proofs.Numbers.{number-lt}
 use Rattle.octets.proofs.Decimal.{digits-length}
-use Rattle.network.specs.Networks.{addressBits, Network}
+use Rattle.network.specs.Networks.{addressBits, addressSize, Network}
 use Rattle.network.specs.Text.{addressText}
 use Rattle.network.proofs.Texts.{addressText-length}
 use Rattle.aspath.specs.declared.Width.{Width}
@@ -24,18 +24,19 @@ use Rattle.aspath.specs.Wire.{widthBytes}
 use Rattle.attributes.specs.declared.Found.{Found}
 use Rattle.attributes.specs.declared.Found.the-variants.{At, Absent}
 use Rattle.attributes.specs.Attribute.{Attribute, firstOf}
-use Rattle.attributes.specs.Bodies.{attributesOf}
+use Rattle.attributes.specs.Bodies.{aggregatorOf, attributesOf}
 use Rattle.attributes.specs.Finding.{bodyAt, findOf}
-use Rattle.attributes.proofs.Lookup.{Asks, first-found, asks-origin, asks-path, asks-next-hop, asks-atomic}
+use Rattle.attributes.proofs.Lookup.{Asks, first-found, asks-origin, asks-path, asks-next-hop, asks-atomic, asks-aggregator, asks-communities}
 use Rattle.message.specs.declared.Part.{Part}
 use Rattle.message.specs.declared.Parts.{Parts}
 use Rattle.message.specs.Represents.{messageLimit}
 use Rattle.message.specs.Decode.{partOf, networksOf, messageAt}
-use Rattle.line.specs.Text.{bar, following, prefixesText, pathText, optional}
-use Rattle.line.specs.Line.{originText, atomicText, widthText, attributeFields, closingFields, lineOf, linesOf}
+use Rattle.line.specs.Text.{bar, following, prefixesText, pathText, communitiesText, optional}
+use Rattle.line.specs.Line.{originText, atomicText, aggregatorText, widthText, attributeFields, closingFields, lineOf, linesOf}
 use Rattle.line.specs.Answer.{lineRoom, isAmple}
 use Rattle.line.proofs.Lines.{line-cons}
 use Rattle.line.proofs.Costs.{prefixes-short}
+use Rattle.line.proofs.Communities.{communities-short}
 use Rattle.line.proofs.PathCosts.{path-short}
 
 -- ---- the fields of the attributes
@@ -59,8 +60,15 @@ origin-short n = go (eqb n 0) (eqb n 1)
     go false true = omega arith
     go false false = omega arith
 
+-- an aggregator is a number, a space and an address
+aggregator-short : (w : ℕ) {body : List ℕ} → Octets body → length (aggregatorText (aggregatorOf w body)) ≤ 26
+unfolding aggregatorOf
+aggregator-short w {body} o =
+    simp length-append
+    (omega (arith, digits-length 10 (numberAt body 0 w), addressText-length (numberAt body w addressSize) (number-lt body w addressSize (o .below))))
+
 -- the fields of a section of attributes, each after a bar
-attributes-short : (width : Width) {s : List ℕ} → Octets s → length (following bar (attributeFields (attributesOf (widthBytes width) s))) ≤ 3 * length s + 24
+attributes-short : (width : Width) {s : List ℕ} → Octets s → length (following bar (attributeFields (attributesOf (widthBytes width) s))) ≤ 8 * length s + 50
 unfolding following
 attributes-short width {s} o =
     let w = widthBytes width in
@@ -70,6 +78,9 @@ attributes-short width {s} o =
     let hop = field-short (asks-next-hop w) addressText 15 s (λ start len. addressText-length _ (omega (arith, number-lt (take len (drop start s)) 0 4 (body start len .below)))) in
     let origin = field-short (asks-origin w) originText 1 s (λ start len. origin-short _) in
     let atomic = field-short (asks-atomic w) atomicText 2 s (λ start len. omega arith) in
+    let aggregator = field-short (asks-aggregator w) aggregatorText 26 s (λ start len. aggregator-short w (body start len)) in
+    let communities = field-short (asks-communities w) communitiesText (5 * length s) s
+    (λ start len. omega (arith, communities-short (take len (drop start s)), length-take len (drop start s), length-drop start s)) in
     simp length-append (omega arith)
 
 -- ---- the fields that end a line
@@ -87,15 +98,15 @@ closing-short address asn seconds width h =
 
 -- ---- a line, and both
 
--- a line has at most 10 bytes for each byte of its prefixes, 3 for each byte of its attributes, and 67
+-- a line has at most 10 bytes for each byte of its prefixes, 8 for each byte of its attributes, and 93
 line-short : (type : ℕ) (prefixes : List ℕ) {attributes : List ℕ} (address asn seconds : ℕ) (width : Width) → Octets attributes → address < 2 ^ addressBits
     → length (lineOf type (networksOf prefixes) (attributesOf (widthBytes width) attributes) (closingFields address asn seconds width))
-    ≤ 10 * length prefixes + 3 * length attributes + 67
+    ≤ 10 * length prefixes + 8 * length attributes + 93
 line-short type prefixes {attributes} address asn seconds width o h =
     go (networksOf prefixes) (prefixes-short prefixes)
   where
     go : (ns : List Network) → length (prefixesText ns) ≤ 10 * length prefixes
-        → length (lineOf type ns (attributesOf (widthBytes width) attributes) (closingFields address asn seconds width)) ≤ 10 * length prefixes + 3 * length attributes + 67
+        → length (lineOf type ns (attributesOf (widthBytes width) attributes) (closingFields address asn seconds width)) ≤ 10 * length prefixes + 8 * length attributes + 93
     go [] k = unfold lineOf in omega arith
     go (n ∷ ns) k =
         rw (line-cons type (attributesOf (widthBytes width) attributes) (closingFields address asn seconds width) n ns)
@@ -113,12 +124,12 @@ module _ (s : List ℕ) (p : Parts) (h : p .address < 2 ^ addressBits) where
   -- a line of a part of a record
   part-line-short : (type : ℕ) (prefixes : Part) {attributes : List ℕ} → Octets attributes
       → length (lineOf type (networksOf (partOf s prefixes)) (attributesOf (widthBytes (p .width)) attributes) (closingFields (p .address) (p .peer) (p .seconds) (p .width)))
-      ≤ 10 * prefixes .len + 3 * length attributes + 67
+      ≤ 10 * prefixes .len + 8 * length attributes + 93
   part-line-short type prefixes o =
       omega (arith, line-short type (partOf s prefixes) (p .address) (p .peer) (p .seconds) (p .width) o h, part-length s prefixes)
 
   -- both lines, by the lengths of the sections
-  lines-short : Octets s → length (linesOf (messageAt s p)) ≤ 10 * (p .withdrawn .len + p .announced .len) + 3 * p .attributes .len + 134
+  lines-short : Octets s → length (linesOf (messageAt s p)) ≤ 10 * (p .withdrawn .len + p .announced .len) + 8 * p .attributes .len + 186
   unfolding linesOf messageAt itemsIn
   lines-short o =
       simp length-append

@@ -1,5 +1,6 @@
 -- Laws of printed lines. Assumes nothing.
 pub mod Bound
+pub mod Communities
 pub mod Costs
 pub mod Fields
 pub mod Lines

@@ -2,7 +2,7 @@
 use Prim.Native.Nat.{ℕ, zero, suc, _+_, _-_, _*_, _≤_, _<_}
 use native.Mathlib.Nat.{add-zero, suc-mul}
 use native.Mathlib.Omega.{arith}
-use mathlib.Core.Path.{_≡_, refl, _∙_}
+use mathlib.Core.Path.{_≡_, refl, sym, _∙_}
 use mathlib.Core.List.{List, [], _∷_, _++_, map}
 use lib.ListN.{getD, drop}
 use lib.Seq.{getD-drop, drop-drop}
@@ -11,13 +11,13 @@ use borrow.Author.Tests.{le-leb, eq-eqb, ne-eqb}
 use Rattle.octets.specs.Choice.{pick}
 use Rattle.octets.specs.Numbers.{numberAt}
 use Rattle.octets.specs.Decimal.{decimal}
-use Rattle.octets.proofs.Numbers.{number-drop, number-one}
+use Rattle.octets.proofs.Numbers.{number-here, number-one}
 use Rattle.aspath.specs.Wire.{numbersIn, segmentOf}
 use Rattle.line.specs.Text.{space, separated, numbersText, segmentText}
 
 -- the number read at a place is that at the front of what is left there
-pub number-here : {n w : ℕ} (s : List ℕ) (p : ℕ) → w ≤ 4 → n ≡ pick (leb w 4) (numberAt s p w) 0 → n ≡ numberAt (drop p s) 0 w
-number-here {n} {w} s p h e = e ∙ rw (number-drop s p 0 w, add-zero) (simp (le-leb _ _ h))
+pub number-read : {n w : ℕ} (s : List ℕ) (p : ℕ) → w ≤ 4 → n ≡ pick (leb w 4) (numberAt s p w) 0 → n ≡ numberAt (drop p s) 0 w
+number-read {n} {w} s p h e = e ∙ simp (le-leb _ _ h) (sym (number-here s p w))
 
 -- the number of one byte read at a place is the byte there
 pub octet-here : {n : ℕ} (s : List ℕ) (p : ℕ) → n ≡ numberAt s p 1 → n ≡ getD s p 0

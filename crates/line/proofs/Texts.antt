@@ -4,7 +4,7 @@ use native.Mathlib.Nat.{lt-of-not-le}
 use native.Mathlib.Decide.{decLe}
 use native.Mathlib.Omega.{arith}
 use mathlib.Core.Path.{_≡_, ap}
-use mathlib.Core.List.{List, [], _∷_, _++_, map}
+use mathlib.Core.List.{List, [], _∷_, _++_, map, append-nil}
 use lib.ListN.{length, drop, length-drop}
 use Rattle.octets.specs.Writes.{lastPlace, Written}
 use Rattle.octets.specs.Rows.{items}
@@ -40,6 +40,12 @@ placed-in {l} {m} {at} {p} {xs} w = go (decLe (at + length xs) lastPlace)
 -- after a writer anything may be left to write
 pub begins : {old now rest : List ℕ} {at place : ℕ} {first : List ℕ} → Written old at first now place → Midst now place rest now place rest
 begins {old} {now} {rest} {at} {place} w = starts now place rest (placed-in w) (omega (arith, kept w, w .sized))
+
+-- the last of texts, each after a separator, is written
+pub last-written : {old new : List ℕ} {at r : ℕ} (separator : ℕ) (text : List ℕ)
+    → Written old at ((separator ∷ []) ++ text) new r → Written old at (following separator (text ∷ [])) new r
+unfolding following
+last-written separator text w = rw (append-nil text) w
 
 module _ (separator : ℕ) {texts : List (List ℕ)} where
   -- there are none

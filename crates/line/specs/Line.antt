@@ -8,9 +8,9 @@ use Rattle.network.specs.Networks.{Network}
 use Rattle.network.specs.Text.{addressText}
 use Rattle.aspath.specs.declared.Width.{Width}
 use Rattle.aspath.specs.declared.Width.the-variants.{Two, Four}
-use Rattle.attributes.specs.Attribute.{Attribute, firstOf, askOrigin, askPath, askNextHop, askAtomic}
+use Rattle.attributes.specs.Attribute.{Aggregator, Attribute, firstOf, askOrigin, askPath, askNextHop, askAtomic, askAggregator, askCommunities}
 use Rattle.message.specs.Message.{Message}
-use Rattle.line.specs.Text.{space, bar, separated, prefixesText, pathText, optional}
+use Rattle.line.specs.Text.{space, bar, separated, prefixesText, pathText, communitiesText, optional}
 
 -- `i`, `e`, `?`
 unfoldable pub originText : ℕ → List ℕ
@@ -19,6 +19,10 @@ originText n = pick (eqb n 0) (105 ∷ []) (pick (eqb n 1) (101 ∷ []) (63 ∷ 
 -- `AT`
 abbrev pub atomicText : Unit {0} → List ℕ
 atomicText present = 65 ∷ 84 ∷ []
+
+-- an aggregator: AS number, space, address (request 1)
+abbrev pub aggregatorText : Aggregator → List ℕ
+aggregatorText a = decimal (a .number) ++ ((space ∷ []) ++ addressText (a .address))
 
 -- the last field is 1 where AS numbers have four bytes
 abbrev pub widthText : Width → List ℕ
@@ -43,15 +47,21 @@ originField attributes = optional originText (firstOf askOrigin attributes)
 abbrev pub atomicField : List Attribute → List ℕ
 atomicField attributes = optional atomicText (firstOf askAtomic attributes)
 
--- AS_PATH, NEXT_HOP, ORIGIN, ATOMIC_AGGREGATE, AGGREGATOR, COMMUNITIES; the last two stay empty
+abbrev pub aggregatorField : List Attribute → List ℕ
+aggregatorField attributes = optional aggregatorText (firstOf askAggregator attributes)
+
+abbrev pub communitiesField : List Attribute → List ℕ
+communitiesField attributes = optional communitiesText (firstOf askCommunities attributes)
+
+-- AS_PATH, NEXT_HOP, ORIGIN, ATOMIC_AGGREGATE, AGGREGATOR, COMMUNITIES
 abbrev pub attributeFields : List Attribute → List (List ℕ)
 attributeFields attributes =
     pathField attributes
     ∷ nextHopField attributes
     ∷ originField attributes
     ∷ atomicField attributes
-    ∷ []
-    ∷ []
+    ∷ aggregatorField attributes
+    ∷ communitiesField attributes
     ∷ []
 
 -- the fields that end a line: PEER, TIMESTAMP, ASN32BIT

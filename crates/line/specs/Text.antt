@@ -6,6 +6,7 @@ use Rattle.octets.specs.Decimal.{decimal}
 use Rattle.network.specs.Networks.{Network}
 use Rattle.network.specs.Text.{networkText}
 use Rattle.aspath.specs.Members.{SegmentType, set, sequence, Segment}
+use Rattle.communities.specs.Text.{communityText}
 
 -- what parts the members of a field, and the fields of a line
 abbrev pub space : ℕ
@@ -39,6 +40,10 @@ segmentText s = numbersText (s .type) (s .numbers)
 -- the segments of a path with spaces between
 abbrev pub pathText : List Segment → List ℕ
 pathText segments = separated space (map segmentText segments)
+
+-- communities with spaces between
+abbrev pub communitiesText : List ℕ → List ℕ
+communitiesText cs = separated space (map communityText cs)
 
 -- the field of what may be absent is empty then
 unfoldable pub optional : {A : Type 0} → (A → List ℕ) → Option A → List ℕ

@@ -6,11 +6,12 @@ ghost use lib.ListN.{drop, length};
 ghost use Rattle.octets.specs.Writes.{Written};
 ghost use Rattle.octets.specs.Decimal.{decimal};
 ghost use Rattle.aspath.specs.Wire.{widthBytes, segmentSize, segmentOf, numbersIn, segmentsOf};
+ghost use Rattle.communities.specs.Communities.{communitiesOf};
 ghost use Rattle.attributes.specs.Bodies.{attributesOf};
 ghost use Rattle.message.specs.Decode.{networksOf, messageAt};
-ghost use Rattle.line.specs.Text.{bar, separated, following, prefixesText, segmentText, pathText};
-ghost use Rattle.line.specs.Line.{pathField, nextHopField, originField, atomicField, originText, widthText, attributeFields};
-ghost use Rattle.line.specs.Line.{closingFields, lineOf, linesOf};
+ghost use Rattle.line.specs.Text.{bar, separated, following, prefixesText, segmentText, pathText, communitiesText};
+ghost use Rattle.line.specs.Line.{pathField, nextHopField, originField, atomicField, aggregatorField, communitiesField, originText};
+ghost use Rattle.line.specs.Line.{widthText, attributeFields, closingFields, lineOf, linesOf};
 ghost use Rattle.line.specs.Answer.{isAmple, writingOf, writing};
 use aspath::Width;
 use attributes::Found;
@@ -143,7 +144,7 @@ fn put_next_hop_field(out: &mut [u8], at: usize, s: &[u8], width: Width) -> usiz
     network::put_address(
         out,
         place,
-        octets::number(octets::part(s, start, len), 0, attributes::NEXT_HOP_SIZE),
+        octets::number(octets::part(s, start, len), 0, network::ADDRESS_SIZE),
     )
 }
 
@@ -191,7 +192,56 @@ fn put_atomic_field(out: &mut [u8], at: usize, s: &[u8], width: Width) -> usize
     octets::put(out, place, b'T')
 }
 
-// The fields of the attributes, each after a bar: AGGREGATOR and COMMUNITIES stay empty.
+// AGGREGATOR after a bar.
+fn put_aggregator_field(out: &mut [u8], at: usize, s: &[u8], width: Width) -> usize
+    ensures { λ r. ⌜ Written (now (out .entry)) at
+        ((bar ∷ []) ++ aggregatorField (attributesOf (widthBytes width) (now (s .entry))))
+        (now (out .exit)) r ⌝ }
+{
+    let place = octets::put(out, at, b'|');
+    let found = attributes::find(s, attributes::AGGREGATOR);
+    let Found::At { start, len } = found else {
+        return place;
+    };
+    let body = octets::part(s, start, len);
+    let w = aspath::width_bytes(width);
+    let place = octets::put_decimal(out, place, octets::number(body, 0, w));
+    let place = octets::put(out, place, b' ');
+    network::put_address(out, place, octets::number(body, w, network::ADDRESS_SIZE))
+}
+
+// The communities of a body with spaces between.
+fn put_communities(out: &mut [u8], at: usize, body: &[u8]) -> usize
+    ensures { λ r. ⌜ Written (now (out .entry)) at (communitiesText (communitiesOf (now (body .entry)))) (now (out .exit)) r ⌝ }
+{
+    if body.len() < communities::SIZE {
+        return at;
+    }
+    let mut place = communities::put_community(out, at, octets::number(body, 0, communities::SIZE));
+    let mut p = communities::SIZE;
+    while communities::SIZE <= body.len() - p {
+        place = octets::put(out, place, b' ');
+        place = communities::put_community(out, place, octets::number(body, p, communities::SIZE));
+        p += communities::SIZE;
+    }
+    place
+}
+
+// COMMUNITIES after a bar.
+fn put_communities_field(out: &mut [u8], at: usize, s: &[u8], width: Width) -> usize
+    ensures { λ r. ⌜ Written (now (out .entry)) at
+        ((bar ∷ []) ++ communitiesField (attributesOf (widthBytes width) (now (s .entry))))
+        (now (out .exit)) r ⌝ }
+{
+    let place = octets::put(out, at, b'|');
+    let found = attributes::find(s, attributes::COMMUNITY);
+    let Found::At { start, len } = found else {
+        return place;
+    };
+    put_communities(out, place, octets::part(s, start, len))
+}
+
+// The fields of the attributes, each after a bar.
 fn put_attributes(out: &mut [u8], at: usize, s: &[u8], width: Width) -> usize
     ensures { λ r. ⌜ Written (now (out .entry)) at
         (following bar (attributeFields (attributesOf (widthBytes width) (now (s .entry)))))
@@ -201,8 +251,8 @@ fn put_attributes(out: &mut [u8], at: usize, s: &[u8], width: Width) -> usize
     let place = put_next_hop_field(out, place, s, width);
     let place = put_origin_field(out, place, s, width);
     let place = put_atomic_field(out, place, s, width);
-    let place = octets::put(out, place, b'|');
-    octets::put(out, place, b'|')
+    let place = put_aggregator_field(out, place, s, width);
+    put_communities_field(out, place, s, width)
 }
 
 // The digit that tells the width.

@@ -42,7 +42,7 @@ any-bytes w = record { long = bytes-length w 0; octets = bytes-octets w 0; value
 update-exists : {m : Message} → AllowedUpdate m → (l : List ℕ) × UpdateBytes m l × (frameHeader + length l ≤ messageLimit)
 update-exists {m} u =
     let x = networks-exist (u .withdrawn) in
-    let y = attributes-exist (widthBytes (m .width)) (u .attributes) in
+    let y = attributes-exist (widthBytes (m .width)) (width-most (m .width)) (u .attributes) in
     let z = networks-exist (u .announced) in
     let n = bytesOf 2 (length (x .0)) in
     let k = bytesOf 2 (length (y .0)) in (

@@ -1,6 +1,5 @@
 -- Laws of places: bytes joined are found at their places, and bytes cut at places are joined again. Assumes nothing.
 use Prim.Native.Nat.{ℕ, _+_, _≤_}
-use native.Mathlib.Nat.{add-zero}
 use native.Mathlib.Omega.{arith}
 use mathlib.Core.Path.{_≡_, refl, sym, ap, _∙_}
 use mathlib.Core.List.{List, _++_}
@@ -8,16 +7,12 @@ use lib.ListN.{length, take, drop, length-drop, take-append-drop}
 use lib.Seq.{take-at, drop-drop, drop-append-seam}
 use Rattle.octets.specs.Numbers.{Octets, Free, Field, numberAt}
 use Rattle.octets.proofs.Bytes.{octets-drop}
-use Rattle.octets.proofs.Numbers.{number-drop}
+use Rattle.octets.proofs.Numbers.{number-here}
 use Rattle.octets.proofs.Fields.{field-sound, field-same}
 
 -- at a place of a list stand some bytes, and the rest after them
 pub record Stands (s : List ℕ) (at : ℕ) (bytes rest : List ℕ) : Type 0 where
   pub cut : drop at s ≡ bytes ++ rest
-
--- a number of a list is the first of what is left at its place
-pub number-here : (s : List ℕ) (at w : ℕ) → numberAt (drop at s) 0 w ≡ numberAt s at w
-number-here s at w = number-drop s at 0 w ∙ ap (λ (n : ℕ). numberAt s n w) (add-zero at)
 
 -- where the bytes of a field stand, its number is read
 pub field-here : {s bytes rest : List ℕ} {at w n : ℕ} → Stands s at bytes rest → Field w n bytes → numberAt s at w ≡ n

@@ -6,12 +6,14 @@ use mathlib.Core.Bool.{Bool, true, false}
 use mathlib.Core.Option.{Option, none, some}
 use mathlib.Core.List.{List, [], _∷_}
 use lib.ListN.{length, getD}
-use Rattle.octets.specs.Choice.{pick}
+use lib.Dec.{eqb}
+use borrow.Author.Tests.{eqb-true}
+use Rattle.octets.specs.Choice.{pick, otherwise}
 use Rattle.octets.specs.Equal.{same}
 use Rattle.octets.proofs.Choices.{never, each}
-use Rattle.octets.specs.Lists.{Every, every-more}
+use Rattle.octets.specs.Lists.{Every, every-none, every-more}
 use Rattle.octets.proofs.Equals.{same-true, same-itself}
-use Rattle.names.specs.Tables.{Row, In, here, there, found}
+use Rattle.names.specs.Tables.{Row, In, here, there, nameOf, found}
 
 -- there is no answer
 abbrev pub missing : {A : Type 0} → Option A → Bool
@@ -76,3 +78,16 @@ module _ {A : Type 0} where
   unfolding found
   missed-found none-missed = refl
   missed-found (one-missed d e m) = rw (sym d ∙ e) (missed-found m)
+
+-- ---- the word of a value
+
+-- what holds of each word of a value and of another text holds of the first such word, or else of that text
+pub named-each : (P : List ℕ → Type 0) (v : ℕ) {rows : List (Row ℕ)} {text : List ℕ} → Every (λ (r : Row ℕ). r .value ≡ v → P (r .word)) rows → P text
+    → P (otherwise (nameOf rows v) text)
+unfolding nameOf
+named-each P v every-none q = q
+named-each P v {text = text} (every-more {a = r} {xs = rs} p ps) q = go (eqb (r .value) v) (eqb-true (r .value) v) (named-each P v ps q)
+  where
+    go : (b : Bool) → (b ≡ true → r .value ≡ v) → P (otherwise (nameOf rs v) text) → P (otherwise (pick b (some (r .word)) (nameOf rs v)) text)
+    go true f ih = p (f refl)
+    go false f ih = ih

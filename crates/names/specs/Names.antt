@@ -36,6 +36,6 @@ attributeNames =
 
 -- ---- what the code computes
 
--- the code's answer for a name: no name has the code 0
+-- the code's answer for a name: no name of a type, an attribute or a community has 0
 abbrev pub namedCode : ℕ → Option ℕ
 namedCode r = pick (eqb r 0) none (some r)

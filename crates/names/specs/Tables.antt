@@ -2,6 +2,7 @@
 use Prim.Native.Nat.{ℕ}
 use mathlib.Core.Option.{Option, none, some}
 use mathlib.Core.List.{List, [], _∷_}
+use lib.Dec.{eqb}
 use Rattle.octets.specs.Choice.{pick}
 use Rattle.octets.specs.Equal.{same}
 
@@ -18,6 +19,11 @@ row w a = record { word = w; value = a }
 pub data In {A : Type 0} : List (Row A) → List ℕ → A → Type 0 where
   here : {r : Row A} {rows : List (Row A)} → In (r ∷ rows) (r .word) (r .value)
   there : {r : Row A} {rows : List (Row A)} {w : List ℕ} {a : A} → In rows w a → In (r ∷ rows) w a
+
+-- the word of the first row with a value
+unfoldable pub nameOf : List (Row ℕ) → ℕ → Option (List ℕ)
+nameOf [] v = none
+nameOf (r ∷ rs) v = pick (eqb (r .value) v) (some (r .word)) (nameOf rs v)
 
 -- ---- what the code computes
 

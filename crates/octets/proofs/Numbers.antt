@@ -4,7 +4,7 @@ use native.Mathlib.Nat.{pow-suc, add-assoc, add-zero, add-suc, mul-suc}
 use lib.Pow.{pow-add, high}
 use native.Mathlib.Numerals.{add-one}
 use native.Mathlib.Omega.{arith}
-use mathlib.Core.Path.{_≡_, refl}
+use mathlib.Core.Path.{_≡_, refl, ap, _∙_}
 use mathlib.Core.List.{List, _++_}
 use lib.ListN.{length, take, drop, getD, List·getD-append, List·getD-eq-default}
 use lib.Seq.{getD-drop, getD-take, getD-append-add}
@@ -29,6 +29,10 @@ pub number-drop : (s : List ℕ) (n at w : ℕ) → numberAt (drop n s) at w ≡
 unfolding numberAt
 number-drop s n at zero = refl
 number-drop s n at (suc w) = rw (number-drop s n at w, getD-drop n s (at + w) 0, add-assoc n at w) refl
+
+-- a number at a place is the first of what is left there
+pub number-here : (s : List ℕ) (at w : ℕ) → numberAt (drop at s) 0 w ≡ numberAt s at w
+number-here s at w = number-drop s at 0 w ∙ ap (λ (n : ℕ). numberAt s n w) (add-zero at)
 
 pub number-take : (s : List ℕ) (n at w : ℕ) → at + w ≤ n → numberAt (take n s) at w ≡ numberAt s at w
 unfolding numberAt

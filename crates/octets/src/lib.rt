@@ -102,6 +102,19 @@ pub fn put(out: &mut [u8], at: usize, b: u8) -> usize
     at + 1
 }
 
+// Writes bytes one after another.
+pub fn put_bytes(out: &mut [u8], at: usize, bytes: &[u8]) -> usize
+    ensures { λ r. ⌜ Written (now (out .entry)) at (now (bytes .entry)) (now (out .exit)) r ⌝ }
+{
+    let mut place = at;
+    let mut i = 0;
+    while i < bytes.len() {
+        place = put(out, place, bytes[i]);
+        i += 1;
+    }
+    place
+}
+
 // Writes two bytes, with one test where both are within the buffer.
 fn put_pair(out: &mut [u8], at: usize, a: u8, b: u8) -> usize
     ensures { λ r. ⌜ Written (now (out .entry)) at (a ∷ b ∷ []) (now (out .exit)) r ⌝ }

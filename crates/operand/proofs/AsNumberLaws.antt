@@ -1,23 +1,21 @@
 -- AS numbers: decided, at the front of a text and as the whole of one, and what may stand behind one. Assumes nothing.
 use Prim.Native.Nat.{ℕ, _≤_, _<_}
-use native.Mathlib.Omega.{arith}
-use mathlib.Core.Path.{_≡_, ap}
+use mathlib.Core.Path.{_≡_}
 use mathlib.Core.Bool.{Bool, true, false}
 use mathlib.Core.Option.{none, some}
 use mathlib.Core.List.{List, _++_}
-use lib.ListN.{length, drop, length-append, length-drop}
+use lib.ListN.{length}
 use Rattle.octets.specs.Lists.{Every}
 use Rattle.token.specs.Texts.{Blank}
+use Rattle.token.specs.Next.{isBlank}
 use Rattle.operand.specs.Fronts.{read}
-use Rattle.operand.specs.Decimals.{isDigit, ReadAt}
+use Rattle.operand.specs.Decimals.{isDigit}
 use Rattle.operand.specs.AsNumbers.{asLimit, AsNumber, plain, asNumber, asNumeral}
-use Rattle.operand.specs.declared.Number.{Number}
-use Rattle.operand.specs.declared.Number.the-variants.{Read as readTo}
-use Rattle.operand.proofs.Holding.{AnswerHolds, holds-map, holds-some}
+use Rattle.operand.proofs.Holding.{AnswerHolds, holds-map}
 use Rattle.operand.proofs.FrontReads.{Got, Stops, end, wholly-sound, wholly-complete}
 use Rattle.operand.proofs.Decimals.{decimal-some, number-sound, number-complete, number-none}
-use Rattle.operand.proofs.Blanks.{blank-stops, decimal-stops}
-use Rattle.operand.proofs.Numbers.{said-some}
+use Rattle.operand.proofs.Blanks.{digit-no-blank, blank-stops, decimal-stops}
+use Rattle.operand.proofs.PartedLaws.{ReadsOne}
 
 -- ---- what may stand behind one
 
@@ -61,6 +59,10 @@ as-some (plain b) = decimal-some (b .decimal)
 pub as-stops : (p : ℕ → Bool) → ((b : ℕ) → isDigit b ≡ true → p b ≡ false) → {text : List ℕ} {n : ℕ} → AsNumber text n → (rest : List ℕ) → Stops p (text ++ rest)
 as-stops p f (plain b) rest = decimal-stops p f (b .decimal) rest
 
+-- the reader of one
+pub as-reads : ReadsOne AsNumber asNumber BehindAs
+as-reads = record { sound = as-sound; complete = as-complete; some-byte = as-some; front = as-stops isBlank digit-no-blank; gap-behind = gap-behind-as }
+
 -- it is below the limit
 pub as-below : {text : List ℕ} {n : ℕ} → AsNumber text n → n < asLimit
 as-below (plain b) = b .below
@@ -76,11 +78,3 @@ as-numeral-sound l = wholly-sound (as-sound l)
 pub as-numeral-complete : {l : List ℕ} {n : ℕ} → AsNumber l n → asNumeral l ≡ some n
 unfolding asNumeral
 as-numeral-complete {l} x = wholly-complete asNumber l (as-complete x end)
-
--- ---- by places
-
--- one that was read ends behind its place
-pub as-moves : {s : List ℕ} {at : ℕ} {r : Number} → ReadAt asNumber s at asLimit r → {v e : ℕ} → r ≡ readTo v e → at < e
-as-moves {s} {at} x {v} {e} z =
-    let g = holds-some (as-sound (drop at s)) (said-some s (x .said) z) in
-    omega (arith, as-some (g .says), ap length (g .joined), length-append (g .text) (drop e s), length-drop at s, length-drop e s, x .ends v e z .0)

@@ -98,6 +98,15 @@ pub first-is : (b : ℕ) (l : List ℕ) → eqb 0 b ≡ false → eqb (getD l 0 
 first-is b [] z e = never (sym z ∙ e)
 first-is b (x ∷ xs) z e = ap (λ (y : ℕ). y ∷ xs) (eqb-true x b e)
 
+-- what stops a run stops a narrower one
+pub stops-narrower : (p q : ℕ → Bool) → ((b : ℕ) → q b ≡ true → p b ≡ true) → {l : List ℕ} → Stops p l → Stops q l
+stops-narrower p q f end = end
+stops-narrower p q f (other {b} e) = other (go (q b) (f b))
+  where
+    go : (t : Bool) → (t ≡ true → p b ≡ true) → t ≡ false
+    go true g = never (sym e ∙ g refl)
+    go false g = refl
+
 -- each byte passes
 abbrev pub Run : (ℕ → Bool) → List ℕ → Type 0
 Run p l = Every (λ (b : ℕ). p b ≡ true) l

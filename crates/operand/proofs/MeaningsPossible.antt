@@ -1,15 +1,14 @@
--- What is meant is possible: codes, addresses, items and times are within their bounds. Assumes nothing.
+-- What is meant is possible: codes, addresses, items, times and communities are within their bounds. Assumes nothing.
 use Prim.Native.Nat.{ℕ, suc, _+_, _*_, _-_, _^_, _≤_, _<_}
 use native.Mathlib.Nat.{mul-le-mul-right, mul-assoc, pow-succ'}
 use native.Mathlib.Omega.{arith}
 use mathlib.Core.Path.{_≡_, refl, sym, ap}
-use mathlib.Core.Bool.{Bool, true, false}
+use mathlib.Core.Bool.{Bool, true}
 use mathlib.Core.List.{List, [], _∷_}
 use lib.Dec.{ltb}
 use lib.ListN.{length}
 use borrow.Author.Tests.{ltb-true}
-use Rattle.octets.specs.Choice.{pick}
-use Rattle.octets.proofs.Choices.{each}
+use Rattle.octets.specs.Lists.{everyPasses}
 use Rattle.octets.proofs.Ranges.{within}
 use Rattle.network.specs.Networks.{addressBits, Network}
 use Rattle.network.proofs.Clearing.{cleared-le, cleared-again}
@@ -18,45 +17,45 @@ use Rattle.aspath.specs.Patterns.{Pattern}
 use Rattle.program.specs.Readings.{Peer, Side, Comparison, Test}
 use Rattle.program.specs.Records.{Code, Bits32, ItemPossible, PeerPossible, NetworkPossible, TimePossible}
 use Rattle.program.proofs.ReadingValid.{PatternPossible, PossibleTest}
-use Rattle.operand.specs.Decimals.{Digits, end, more}
-use Rattle.names.specs.Tables.{Row, In, here, there}
+use Rattle.operand.specs.Decimals.{byteLimit, wordLimit, Digits, end, more}
+use Rattle.names.specs.Tables.{Row, In}
 use Rattle.names.specs.Names.{typeNames, attributeNames}
+use Rattle.communities.specs.Names.{communityNames}
 use Rattle.operand.specs.Codes.{CodeOperand, by-name, by-code}
 use Rattle.operand.specs.Addresses.{Address, NetworkText, NetworkOperand, plain, plus, minus}
 use Rattle.operand.specs.Peers.{PeerOperand, by-as, by-address, by-both}
 use Rattle.operand.specs.Patterns.{ItemText, a-number, not-it, any, PatternOperand}
+use Rattle.operand.specs.Communities.{CommunityText, halves, by-name as named}
 use Rattle.operand.specs.Times.{fractionDigits, FractionText, whole, fraction, TimeOperand}
 use Rattle.operand.specs.declared.Name.{Name}
 use Rattle.operand.proofs.AsNumberLaws.{as-below}
+use Rattle.operand.proofs.NameTables.{row-passes}
 use Rattle.operand.proofs.PartedLaws.{every-parted}
-use Rattle.operand.specs.Tests.{StandsFor, type, attribute, path, peer, network, time}
+use Rattle.operand.specs.Tests.{StandsFor, type, attribute, path, peer, network, time, communities}
 
 -- ---- codes
 
--- the codes of a table are bytes
-unfoldable smallCodes : List (Row ℕ) → Bool
-smallCodes [] = true
-smallCodes (n ∷ ns) = pick (ltb (n .value) 256) (smallCodes ns) false
+-- the codes of a table are below a limit
+abbrev small : ℕ → List (Row ℕ) → Bool
+small limit names = everyPasses (λ (r : Row ℕ). ltb (r .value) limit) names
 
--- so is the code of each row
-small-in : {names : List (Row ℕ)} {w : List ℕ} {c : ℕ} → smallCodes names ≡ true → In names w c → c < 256
-unfolding smallCodes
-small-in t (here {r} {rows}) = ltb-true (r .value) 256 (each (ltb (r .value) 256) (smallCodes rows) t .0)
-small-in t (there {r} {rows} x) = small-in (each (ltb (r .value) 256) (smallCodes rows) t .1) x
+-- so is the code of each name
+small-in : (limit : ℕ) {names : List (Row ℕ)} {w : List ℕ} {c : ℕ} → small limit names ≡ true → In names w c → c < limit
+small-in limit {c = c} t x = ltb-true c limit (row-passes (λ w c. ltb c limit) t x)
 
 -- a code is a byte
-code-possible : {names : List (Row ℕ)} {l : List ℕ} {c : ℕ} → smallCodes names ≡ true → CodeOperand names l c → Code c
-code-possible t (by-name x) = record { below = small-in t x }
+code-possible : {names : List (Row ℕ)} {l : List ℕ} {c : ℕ} → small byteLimit names ≡ true → CodeOperand names l c → Code c
+code-possible t (by-name x) = record { below = small-in byteLimit t x }
 code-possible t (by-code b) = record { below = b .below }
 
 -- the codes of message types are
-types-small : smallCodes typeNames ≡ true
-unfolding smallCodes typeNames
+types-small : small byteLimit typeNames ≡ true
+unfolding everyPasses typeNames
 types-small = refl
 
 -- and those of attributes
-attributes-small : smallCodes attributeNames ≡ true
-unfolding smallCodes attributeNames
+attributes-small : small byteLimit attributeNames ≡ true
+unfolding everyPasses attributeNames
 attributes-small = refl
 
 -- ---- addresses, networks, peers
@@ -126,6 +125,14 @@ fraction-below (fraction {bs} {n} x f g) = micros-below n (length bs) g (omega (
 time-possible : {l : List ℕ} {c : Comparison} {s m : ℕ} → TimeOperand l c s m → TimePossible s m
 time-possible x = record { word = record { below = x .whole-is .below }; fraction = fraction-below (x .rest-is) }
 
+-- ---- communities
+
+-- a community has 32 bits
+community-possible : {l : List ℕ} {c : ℕ} → CommunityText l c → Bits32 c
+unfolding everyPasses communityNames
+community-possible (halves x y e) = record { below = omega (arith, x .below, y .below) }
+community-possible (named x) = record { below = small-in wordLimit refl x }
+
 -- ---- every test that is meant is possible
 
 -- for each test
@@ -136,3 +143,4 @@ means-possible (path x) = pattern-possible x
 means-possible (peer x) = peer-possible x
 means-possible (network x) = side-possible x
 means-possible (time x) = time-possible x
+means-possible (communities x) = record { each = every-parted (λ bs c t. community-possible t) (x .parted); some = x .some }

@@ -4,7 +4,7 @@ use native.Mathlib.Omega.{arith}
 use mathlib.Core.Path.{_≡_, refl, sym, ap, _∙_}
 use mathlib.Core.Bool.{Bool}
 use mathlib.Core.Option.{Option, none, some}
-use mathlib.Core.List.{List, [], _∷_, _++_, append-assoc}
+use mathlib.Core.List.{List, [], _∷_, _++_, append-assoc, append-nil}
 use lib.ListN.{length, length-append}
 use Rattle.octets.specs.Lists.{Every, every-none, every-more}
 use Rattle.octets.proofs.Every.{every-append}
@@ -53,6 +53,11 @@ pub every-parted : {A : Type 0} {R : List ℕ → A → Type 0} {P : A → Type 
 every-parted f empty = every-none
 every-parted f (last t) = every-more (f _ _ t) every-none
 every-parted f (more t g h x e) = every-more (f _ _ t) (every-parted f x)
+
+-- what holds of every text that ends with one holds of a text that ends with the last
+pub parted-end : {A : Type 0} {R : List ℕ → A → Type 0} (P : List ℕ → Type 0) → ((front bs : List ℕ) (x : A) → R bs x → P (front ++ bs)) → {l : List ℕ} {x : A} {xs : List A} → PartedText R l (x ∷ xs) → P l
+parted-end P f (last t) = f [] _ _ t
+parted-end P f (more {bs} {gap} t g h x e) = rw e (parted-end (λ m. P (bs ++ (gap ++ m))) (λ front cs y r. rw (append-assoc bs (gap ++ front) cs, append-assoc gap front cs) at (f (bs ++ (gap ++ front)) cs y r)) x)
 
 module _ {A : Type 0} {R : List ℕ → A → Type 0} {one : List ℕ → Option (Read A)} {Behind : List ℕ → Type 0} (k : ReadsOne R one Behind) where
   -- they start with no blank
@@ -170,3 +175,10 @@ module _ {A : Type 0} {R : List ℕ → A → Type 0} {one : List ℕ → Option
   parted-complete {before} {text} {behind} {rest} {xs} b x q w =
       let m = cut isBlank (before ++ (text ++ (behind ++ rest))) .rest in
       parted-fuel (length m) (length m + length xs) m (omega arith) (omega arith) ∙ parted-bounded (length m + length xs) b x q w (omega arith)
+
+  -- and those of a text that is nothing else
+  pub parted-whole : {text : List ℕ} {x : A} {xs : List A} → PartedText R text (x ∷ xs) → Closes one Behind [] → allParted one text ≡ read (x ∷ xs) []
+  parted-whole {text} {x} {xs} t w =
+      let c : cut isBlank (text ++ []) ≡ read [] (text ++ []) = cut-exact isBlank every-none (parted-front t []) in
+      let e : allParted one (cut isBlank (text ++ []) .rest) ≡ read (x ∷ xs) [] = parted-complete every-none t every-none w in
+      rw (c, append-nil text) at e

@@ -5,15 +5,19 @@ use native.Mathlib.Omega.{arith}
 use mathlib.Core.Path.{_≡_, refl, _∙_}
 use mathlib.Core.Option.{Option, none, some}
 use mathlib.Core.List.{List, [], _∷_, map}
-use lib.ListN.{length, drop}
+use lib.ListN.{length, drop, length-drop}
 use Rattle.octets.specs.Writes.{lastPlace, Written}
 use Rattle.octets.proofs.Writes.{Midst, moves, ends}
 use Rattle.program.specs.Records.{Record}
 use Rattle.program.specs.Layout.{encode, encodeAll}
 use Rattle.token.specs.Next.{isBlank, runEnd}
 use Rattle.operand.specs.Fronts.{Read, read, cut}
+use Rattle.operand.specs.Decimals.{ReadAt}
+use Rattle.operand.specs.declared.Number.{Number}
+use Rattle.operand.specs.declared.Number.the-variants.{Read as readTo}
 use Rattle.operand.specs.Parted.{followed, partedRead, allParted, PartedAt}
 use Rattle.operand.proofs.Holding.{holds-some}
+use Rattle.operand.proofs.Numbers.{said-some}
 use Rattle.operand.proofs.Blanks.{blanks-left, blanks-count, blanks-within}
 use Rattle.operand.proofs.PartedLaws.{ReadsOne, cut-shorter, one-shorter, parted-fuel}
 
@@ -69,6 +73,10 @@ module _ {A : Type 0} {R : List ℕ → A → Type 0} {one : List ℕ → Option
           go : (gap : List ℕ) → length gap + e ≡ q → followed (allParted one) x gap (drop q s) ≡ read (x ∷ allParted one (drop q s) .value) (allParted one (drop q s) .rest)
           go [] h = absurd (n (omega arith))
           go (g ∷ gs) h = refl
+
+-- a number that was read ends behind its place
+pub one-moves : {R : List ℕ → ℕ → Type 0} {one : List ℕ → Option (Read ℕ)} {Behind : List ℕ → Type 0} → ReadsOne R one Behind → {s : List ℕ} {at limit : ℕ} {r : Number} → ReadAt one s at limit r → {v e : ℕ} → r ≡ readTo v e → at < e
+one-moves k {s} {at} x {v} {e} z = omega (arith, holds-some (one-shorter k (drop at s)) (said-some s (x .said) z), length-drop at s, length-drop e s, x .ends v e z .0)
 
 -- ---- counting from a place on: those counted and those left are all of them
 

@@ -3,28 +3,31 @@ use Prim.Native.Nat.{ℕ, _+_, _-_, _*_}
 use native.Mathlib.Omega.{arith}
 use mathlib.Core.Path.{_≡_, refl, sym, ap, _∙_}
 use mathlib.Core.Bool.{Bool, true, false}
-use mathlib.Core.Option.{Option, none, some}
+use mathlib.Core.Option.{none}
 use mathlib.Core.List.{List, [], _∷_, map}
 use lib.ListN.{length, drop, length-drop, drop-of-length-le, length-map}
-use Rattle.octets.specs.Choice.{pick, onward}
+use Rattle.octets.specs.Choice.{pick}
 use Rattle.octets.proofs.Choices.{alike}
 use Rattle.aspath.specs.declared.Item.{Item}
 use Rattle.aspath.specs.Patterns.{Pattern}
 use Rattle.program.specs.Kinds.{pathKind}
 use Rattle.program.specs.Layout.{fields, endsCode, headFields}
 use Rattle.program.specs.declared.Fields.{Fields}
-use Rattle.program.specs.Readings.{Test, pathMatches}
+use Rattle.program.specs.Readings.{pathMatches}
 use Rattle.program.specs.Records.{item}
 use Rattle.program.specs.Compiling.{headOf, itemsOf}
 use Rattle.operand.specs.declared.Items.{Items}
+use Rattle.operand.specs.declared.Listed.the-variants.{Items as itemList}
 use Rattle.operand.specs.declared.Meant.the-variants.{Head, Broken}
 use Rattle.operand.specs.declared.Name.the-variants.{Path as pathName}
 use Rattle.operand.specs.Fronts.{Read, ended, optional}
 use Rattle.operand.specs.Parted.{allParted, PartedAt}
-use Rattle.operand.specs.Patterns.{itemRead, itemRecords, notEmpty, patternItems, patternOperand, OptionalEnd}
+use Rattle.operand.specs.Patterns.{itemRead, notEmpty, patternItems, patternOperand, OptionalEnd}
+use Rattle.operand.specs.Listed.{listedRead, listedRecords}
 use Rattle.operand.specs.Tests.{meaning, followingMeant, meantOf}
 use Rattle.token.specs.Next.{isBlank, runEnd}
 use Rattle.operand.proofs.Blanks.{blanks-left, blanks-within}
+use Rattle.operand.proofs.MeantFollows.{some-follow}
 use Rattle.operand.proofs.OperandPatterns.{items-in}
 
 -- a sign is counted as the variant of a record counts it
@@ -54,28 +57,15 @@ left-over : (l : List ℕ) (p : Pattern) → (length l ≡ 0 → ⊥) → ended 
 left-over [] p n = absurd (n refl)
 left-over (b ∷ bs) p n = refl
 
--- nothing follows where no pattern is meant
-pub none-follow : (s : List ℕ) → Broken ≡ meantOf (meaning pathName s) → followingMeant (meaning pathName s) ≡ []
-none-follow s e = go (meaning pathName s) e
-  where
-    go : (o : Option Test) → Broken ≡ meantOf o → followingMeant o ≡ []
-    go none e = refl
-    go (some t) e = let z : _≡_ {A = ℕ} 0 1 = cc in absurd (omega arith)
-
 module _ {s : List ℕ} {start caret first : ℕ} (a : start ≡ runEnd isBlank s 0) (b : OptionalEnd 94 s start caret) (c : first ≡ runEnd isBlank s caret) where
   -- the items stand behind blanks, maybe `^`, and blanks
   listed-at : patternItems s ≡ allParted itemRead (drop first s)
   listed-at = rw (blanks-left s caret c, b .left, blanks-left s 0 a)
 
   -- so do those of a pattern that is meant
-  pub items-follow : {f : Fields} {n : ℕ} → Head f n ≡ meantOf (meaning pathName s) → followingMeant (meaning pathName s) ≡ itemRecords (drop first s)
-  unfolding meaning itemsOf
-  items-follow {f} {n} e = go (patternOperand s) refl e
-    where
-      go : (o : Option Pattern) → patternOperand s ≡ o → Head f n ≡ meantOf (onward o (λ p. some (pathMatches p)))
-          → followingMeant (onward o (λ p. some (pathMatches p))) ≡ itemRecords (drop first s)
-      go none m e = let z : _≡_ {A = ℕ} 0 1 = cc in absurd (omega arith)
-      go (some p) m e = ap (map item) (sym (items-in s m) ∙ ap (λ (r : Read (List Item)). r .value) listed-at)
+  pub items-follow : {f : Fields} {n : ℕ} → Head f n ≡ meantOf (meaning pathName s) → followingMeant (meaning pathName s) ≡ listedRecords itemList (drop first s)
+  unfolding meaning itemsOf listedRead
+  items-follow e = some-follow (patternOperand s) pathMatches (λ p m. ap (map item) (sym (items-in s m) ∙ ap (λ (r : Read (List Item)). r .value) listed-at)) e
 
   module _ {n : Items} (is : PartedAt itemRead s first n) {dollar last : ℕ} (d : OptionalEnd 36 s (n .end) dollar) (e : last ≡ runEnd isBlank s dollar) where
     -- the parts at the places

@@ -8,7 +8,7 @@ use Rattle.network.specs.Networks.{addressBits, masked}
 use Rattle.aspath.specs.Patterns.{Pattern}
 use Rattle.aspath.specs.declared.Item.{Item}
 use Rattle.aspath.specs.declared.Item.the-variants.{Any}
-use Rattle.program.specs.Readings.{byAs, eitherSide, equal, Test, typeIs, hasAttribute, pathMatches, peerIs, networkIs, timeIs}
+use Rattle.program.specs.Readings.{byAs, eitherSide, equal, Test, typeIs, hasAttribute, pathMatches, peerIs, networkIs, timeIs, hasCommunities}
 use Rattle.octets.specs.Choice.{pick}
 use Rattle.octets.specs.Lists.{every-none}
 use Rattle.octets.specs.Decimal.{digit}
@@ -20,18 +20,21 @@ use Rattle.operand.specs.Peers.{by-as}
 use Rattle.operand.specs.Addresses.{plain}
 use Rattle.operand.specs.Patterns.{ItemText, any, PatternOperand}
 use Rattle.operand.specs.Parted.{PartedText, last}
+use Rattle.communities.specs.Communities.{halfLimit}
+use Rattle.operand.specs.Communities.{CommunityText, halves}
 use Rattle.operand.specs.Times.{secondsLimit, unsigned, whole}
 use Rattle.operand.specs.declared.Name.{Name}
-use Rattle.operand.specs.declared.Name.the-variants.{MessageType as typeName, Attribute as attributeName, Path as pathName, Peer as peerName, Time as timeName, Network as networkName}
-use Rattle.operand.specs.Tests.{StandsFor, type, attribute, path, peer, network, time}
+use Rattle.operand.specs.declared.Name.the-variants.{MessageType as typeName, Attribute as attributeName, Path as pathName, Peer as peerName, Time as timeName, Network as networkName, Communities as communitiesName}
+use Rattle.operand.specs.Tests.{StandsFor, type, attribute, path, peer, network, time, communities}
 
--- `.` for `-aspath`, `0.0.0.0/0` for a network, `0` for the others
+-- `.` for `-aspath`, `0.0.0.0/0` for a network, `0:0` for `-communities`, `0` for the others
 abbrev pub sampleText : Name → List ℕ
 sampleText typeName = 48 ∷ []
 sampleText attributeName = 48 ∷ []
 sampleText pathName = 46 ∷ []
 sampleText peerName = 48 ∷ []
 sampleText timeName = 48 ∷ []
+sampleText communitiesName = 48 ∷ 58 ∷ 48 ∷ []
 sampleText (networkName r) = 48 ∷ 46 ∷ 48 ∷ 46 ∷ 48 ∷ 46 ∷ 48 ∷ 47 ∷ 48 ∷ []
 
 abbrev pub sampleTest : Name → Test
@@ -40,11 +43,16 @@ sampleTest attributeName = hasAttribute 0
 sampleTest pathName = pathMatches (record { start = false; items = Any ∷ []; end = false })
 sampleTest peerName = peerIs (byAs 0)
 sampleTest timeName = timeIs equal 0 0
+sampleTest communitiesName = hasCommunities (0 ∷ [])
 sampleTest (networkName r) = networkIs r (masked addressBits 0 0) eitherSide
 
 -- `0` is 0
 zero-below : (limit : ℕ) → 0 < limit → Below limit (48 ∷ []) 0
 zero-below limit h = record { decimal = digit 0 (omega arith); below = h }
+
+-- `0:0` is 0
+pub zero-community : CommunityText (48 ∷ 58 ∷ 48 ∷ []) 0
+zero-community = halves (zero-below halfLimit (omega arith)) (zero-below halfLimit (omega arith)) refl
 
 -- a pattern with no blank before, between or behind its parts
 pub unspaced : (p : Pattern) {text : List ℕ} → PartedText ItemText text (p .items) → (p .start ≡ false → p .end ≡ false → p .items ≡ [] → ⊥)
@@ -75,6 +83,7 @@ sample pathName =
     no-item e = let z : _≡_ {A = ℕ} 0 1 = cc in omega arith
 sample peerName = peer (by-as (as-numbers.plain (zero-below asLimit (omega arith))))
 sample timeName = time (record { sign = []; whole = 48 ∷ []; rest = []; joined = refl; sign-is = unsigned; whole-is = zero-below secondsLimit (omega arith); rest-is = whole })
+sample communitiesName = communities (record { parted = last zero-community; some = omega arith })
 sample (networkName r) =
     network (plain (record {
       address = 0;

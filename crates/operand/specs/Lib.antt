@@ -7,5 +7,7 @@ pub mod Addresses
 pub mod Peers
 pub mod Parted
 pub mod Patterns
+pub mod Communities
+pub mod Listed
 pub mod Times
 pub mod Tests

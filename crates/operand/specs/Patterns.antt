@@ -1,23 +1,20 @@
 -- `-aspath`: optional `^`, items parted by blanks, optional `$`; blanks around these are free.
-use Prim.Native.Nat.{ℕ, _+_, _≤_, _<_}
+use Prim.Native.Nat.{ℕ, _+_, _≤_}
 use mathlib.Core.Path.{_≡_}
 use mathlib.Core.Bool.{Bool, true, false}
 use mathlib.Core.Option.{Option, none, some}
-use mathlib.Core.List.{List, [], _∷_, _++_, map}
+use mathlib.Core.List.{List, [], _∷_, _++_}
 use lib.ListN.{length, drop}
 use Rattle.octets.specs.Choice.{pick, orElse, onward}
 use Rattle.octets.specs.Lists.{Every}
 use Rattle.aspath.specs.declared.Item.{Item}
 use Rattle.aspath.specs.declared.Item.the-variants.{Number, Other, Any}
 use Rattle.aspath.specs.Patterns.{Pattern}
-use Rattle.program.specs.Records.{Record, item}
 use Rattle.token.specs.Texts.{Blank}
 use Rattle.operand.specs.Fronts.{Read, read, ended, after, optional, cut}
 use Rattle.operand.specs.Parted.{PartedText, allParted}
 use Rattle.token.specs.Next.{isBlank}
 use Rattle.operand.specs.AsNumbers.{AsNumber, asNumber}
-use Rattle.operand.specs.declared.ItemRead.{ItemRead}
-use Rattle.operand.specs.declared.ItemRead.the-variants.{Read as Found, Missing}
 
 -- an AS number, `.`, or `!` directly before a number
 pub data ItemText : List ℕ → Item → Type 0 where
@@ -50,10 +47,6 @@ itemRead l =
     (orElse (onward (after 46 l) (λ r. some (read Any r)))
     (onward (after 33 l) (λ r. onward (asNumber r) (λ n. some (read (Other (n .value)) (n .rest))))))
 
--- the records of the items at the front
-abbrev pub itemRecords : List ℕ → List Record
-itemRecords l = map item (allParted itemRead l .value)
-
 -- `^`, `$` or an item
 abbrev pub notEmpty : Bool → List Item → Bool → Bool
 notEmpty true is e = true
@@ -77,20 +70,10 @@ patternItems l = allParted itemRead (cut isBlank (patternOpened l .rest) .rest)
 unfoldable pub patternOperand : List ℕ → Option Pattern
 patternOperand l = patternClosed (patternOpened l .value) (patternItems l .value) (optional 36 (patternItems l .rest))
 
--- ---- what the answers of the code say, by places
+-- ---- what an answer of the code says, by places
 
 -- r is the place after a byte b that may stand at a place
 pub record OptionalEnd (b : ℕ) (s : List ℕ) (at r : ℕ) : Type 0 where
   pub left : drop r s ≡ optional b (drop at s) .rest
   pub place : r ≡ at + pick (optional b (drop at s) .value) 1 0
   pub high : r ≤ length s
-
--- the item, and what is left where it ends
-abbrev pub itemLeft : List ℕ → ItemRead → Option (Read Item)
-itemLeft s (Found i e) = some (read i (drop e s))
-itemLeft s Missing = none
-
--- the item at a place
-pub record ItemAt (s : List ℕ) (at : ℕ) (r : ItemRead) : Type 0 where
-  pub said : itemLeft s r ≡ itemRead (drop at s)
-  pub ends : (i : Item) (e : ℕ) → r ≡ Found i e → (at < e) × (e ≤ length s)

@@ -8,7 +8,7 @@ use Rattle.octets.specs.Choice.{pick, onward}
 use Rattle.network.specs.Networks.{Network}
 use Rattle.network.specs.declared.Relation.{Relation}
 use Rattle.aspath.specs.Patterns.{Pattern}
-use Rattle.program.specs.Readings.{Peer, Side, Comparison, Test, typeIs, hasAttribute, pathMatches, peerIs, networkIs, timeIs}
+use Rattle.program.specs.Readings.{Peer, Side, Comparison, Test, typeIs, hasAttribute, pathMatches, peerIs, networkIs, timeIs, hasCommunities}
 use Rattle.program.specs.Layout.{fields, headFields}
 use Rattle.program.specs.Records.{Record}
 use Rattle.program.specs.Compiling.{headOf, followingOf}
@@ -18,12 +18,13 @@ use Rattle.operand.specs.Codes.{CodeOperand, coded}
 use Rattle.operand.specs.Addresses.{NetworkOperand, networkOperand}
 use Rattle.operand.specs.Peers.{PeerOperand, peerOperand}
 use Rattle.operand.specs.Patterns.{PatternOperand, patternOperand}
+use Rattle.operand.specs.Communities.{CommunitiesOperand, communitiesOperand}
 use Rattle.operand.specs.Times.{TimeOperand, comparison, timeOperand}
 use Rattle.operand.specs.declared.Meant.{Meant}
 use Rattle.operand.specs.declared.Meant.the-variants.{Head, Broken}
 use Rattle.operand.specs.declared.Name.{Name}
 use Rattle.operand.specs.declared.Name.the-variants.{MessageType as typeName, Attribute as attributeName, Path as pathName}
-use Rattle.operand.specs.declared.Name.the-variants.{Peer as peerName, Time as timeName, Network as networkName}
+use Rattle.operand.specs.declared.Name.the-variants.{Peer as peerName, Time as timeName, Network as networkName, Communities as communitiesName}
 
 -- what a test with an operand of these bytes is, if the operand keeps the test's rule
 pub data StandsFor : Name → List ℕ → Test → Type 0 where
@@ -33,6 +34,7 @@ pub data StandsFor : Name → List ℕ → Test → Type 0 where
   peer : {bs : List ℕ} {p : Peer} → PeerOperand bs p → StandsFor peerName bs (peerIs p)
   network : {bs : List ℕ} {r : Relation} {s : Side} {n : Network} → NetworkOperand bs s n → StandsFor (networkName r) bs (networkIs r n s)
   time : {bs : List ℕ} {c : Comparison} {s m : ℕ} → TimeOperand bs c s m → StandsFor timeName bs (timeIs c s m)
+  communities : {bs cs : List ℕ} → CommunitiesOperand bs cs → StandsFor communitiesName bs (hasCommunities cs)
 
 -- ---- what the code computes
 
@@ -43,6 +45,7 @@ meaning attributeName v = onward (coded attributeNames v) (λ c. some (hasAttrib
 meaning pathName v = onward (patternOperand v) (λ p. some (pathMatches p))
 meaning peerName v = onward (peerOperand v) (λ p. some (peerIs p))
 meaning timeName v = onward (timeOperand v) (λ t. some (timeIs (t .comparison) (t .seconds) (t .micros)))
+meaning communitiesName v = onward (communitiesOperand v) (λ cs. some (hasCommunities cs))
 meaning (networkName r) v = onward (networkOperand v) (λ n. some (networkIs r (n .network) (n .side)))
 
 -- the same, and none where the operand is longer than a text

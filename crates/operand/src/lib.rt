@@ -17,7 +17,9 @@ ghost use Rattle.names.specs.Names.{namedCode};
 ghost use Rattle.operand.specs.Addresses.{partRead, networkRead, AddressAt};
 ghost use Rattle.operand.specs.Peers.{behindAddress};
 ghost use Rattle.operand.specs.Parted.{PartedAt};
-ghost use Rattle.operand.specs.Patterns.{OptionalEnd, itemRead, itemRecords, ItemAt};
+ghost use Rattle.operand.specs.Patterns.{OptionalEnd, itemRead};
+ghost use Rattle.operand.specs.Communities.{halvesRead, nameRead, communityRead};
+ghost use Rattle.operand.specs.Listed.{listedRead, listedRecords, ItemAt};
 ghost use Rattle.operand.specs.Times.{fractionDigits, fractionOf, Signed, Digited};
 ghost use Rattle.operand.specs.Tests.{meaning, operandMeaning, followingMeant, meantOf, codeMeant, peerMeant, networkMeant};
 use aspath::Item;
@@ -36,6 +38,8 @@ const FRACTION_DIGITS: usize = 6;
 const ADDRESS_BITS: u64 = network::ADDRESS_BITS as u64;
 
 const LENGTH_LIMIT: u64 = ADDRESS_BITS + 1;
+// A half of a community is below it.
+const HALF_LIMIT: u64 = communities::HALF_LIMIT as u64;
 // The signs before a network and a time.
 const PLUS: u32 = b'+' as u32;
 
@@ -55,6 +59,7 @@ pub enum Name {
     Peer,
     Time,
     Network(Relation),
+    Communities,
 }
 
 // The head of a test and how many records follow it, or that its operand breaks the test's rule.
@@ -75,7 +80,13 @@ enum AddressRead {
     Missing,
 }
 
-// An item of a pattern and the place after it, or that none stands there.
+// What is listed in an operand, a record each.
+enum Listed {
+    Items,
+    Communities,
+}
+
+// An item, a pattern's or a community, and the place after it; or that none stands there.
 enum ItemRead {
     Read { item: Item, end: usize },
     Missing,
@@ -456,7 +467,7 @@ fn optional_end(s: &[u8], at: usize, b: u8) -> usize
 // The item at a place: an AS number, `.`, or `!` directly before a number.
 fn item_at(s: &[u8], at: usize) -> ItemRead
     requires { ⌜ at ≤ length (now s) ⌝ }
-    ensures { λ r. ⌜ ItemAt (now (s .entry)) at r ⌝ }
+    ensures { λ r. ⌜ ItemAt itemRead (now (s .entry)) at r ⌝ }
 {
     let plain = as_number(s, at);
     if let Number::Read { value, end } = plain {
@@ -487,15 +498,80 @@ fn item_at(s: &[u8], at: usize) -> ItemRead
     }
 }
 
-// Counts the items from a place on, as far as they are parted by blanks.
-fn items_at(s: &[u8], at: usize) -> Items
+// The community at a place that stands there by name.
+fn named_community(s: &[u8], at: usize) -> Number
+    requires { ⌜ at ≤ length (now s) ⌝ }
+    ensures { λ r. ⌜ ReadAt nameRead (now (s .entry)) at wordLimit r ⌝ }
+{
+    let end = token::letters_end(s, at);
+    let value = communities::named(&s[at..end]);
+    if value == names::UNNAMED {
+        return Number::Missing;
+    }
+    Number::Read { value, end }
+}
+
+// The community at a place that stands there in its halves.
+fn halves(s: &[u8], at: usize) -> Number
+    requires { ⌜ at ≤ length (now s) ⌝ }
+    ensures { λ r. ⌜ ReadAt halvesRead (now (s .entry)) at wordLimit r ⌝ }
+{
+    let Number::Read { value: n, end } = number_at(s, at, HALF_LIMIT) else {
+        return Number::Missing;
+    };
+    if s.len() <= end {
+        return Number::Missing;
+    }
+    if s[end] != b':' {
+        return Number::Missing;
+    }
+    let Number::Read { value: m, end } = number_at(s, end + 1, HALF_LIMIT) else {
+        return Number::Missing;
+    };
+    Number::Read {
+        value: n * communities::HALF_LIMIT + m,
+        end,
+    }
+}
+
+// The community at a place: a name, or two halves with a colon between.
+fn community_at(s: &[u8], at: usize) -> Number
+    requires { ⌜ at ≤ length (now s) ⌝ }
+    ensures { λ r. ⌜ ReadAt communityRead (now (s .entry)) at wordLimit r ⌝ }
+{
+    let named = named_community(s, at);
+    let Number::Read { value, end } = named else {
+        return halves(s, at);
+    };
+    Number::Read { value, end }
+}
+
+// One of a list at a place: a community is a number.
+fn listed_at(list: Listed, s: &[u8], at: usize) -> ItemRead
+    requires { ⌜ at ≤ length (now s) ⌝ }
+    ensures { λ r. ⌜ ItemAt (listedRead list) (now (s .entry)) at r ⌝ }
+{
+    let Listed::Communities = list else {
+        return item_at(s, at);
+    };
+    let Number::Read { value, end } = community_at(s, at) else {
+        return ItemRead::Missing;
+    };
+    ItemRead::Read {
+        item: Item::Number(value),
+        end,
+    }
+}
+
+// Counts those of a list from a place on, as far as they are parted by blanks.
+fn items_at(list: Listed, s: &[u8], at: usize) -> Items
     requires { ⌜ (at ≤ length (now s)) × (length (now s) ≤ textLimit) ⌝ }
-    ensures { λ r. ⌜ PartedAt itemRead (now (s .entry)) at r ⌝ }
+    ensures { λ r. ⌜ PartedAt (listedRead list) (now (s .entry)) at r ⌝ }
 {
     let mut count: u32 = 0;
     let mut next = at;
     loop {
-        let read = item_at(s, next);
+        let read = listed_at(list, s, next);
         let ItemRead::Read { item: _, end } = read else {
             return Items { count, end: next };
         };
@@ -514,7 +590,7 @@ fn pattern(bytes: &[u8]) -> Meant
 {
     let start = token::blanks_end(bytes, 0);
     let caret = optional_end(bytes, start, b'^');
-    let items = items_at(bytes, token::blanks_end(bytes, caret));
+    let items = items_at(Listed::Items, bytes, token::blanks_end(bytes, caret));
     let end = items.end;
     let dollar = optional_end(bytes, end, b'$');
     if token::blanks_end(bytes, dollar) != bytes.len() {
@@ -528,6 +604,33 @@ fn pattern(bytes: &[u8]) -> Meant
         fields: Fields {
             kind: program::PATH,
             variant,
+            count: items.count,
+            a: 0,
+            b: 0,
+        },
+        following: items.count,
+    }
+}
+
+// The communities of an operand: how many.
+fn communities_operand(bytes: &[u8]) -> Meant
+    requires { ⌜ length (now bytes) ≤ textLimit ⌝ }
+    ensures { λ r. ⌜ r ≡ meantOf (meaning Name.Communities (now (bytes .entry))) ⌝ }
+{
+    let items = items_at(Listed::Communities, bytes, 0);
+    if items.count == 0 {
+        return Meant::Broken;
+    }
+    if items.end != bytes.len() {
+        return Meant::Broken;
+    }
+    if token::is_blank(bytes[bytes.len() - 1]) {
+        return Meant::Broken;
+    }
+    Meant::Head {
+        fields: Fields {
+            kind: program::COMMUNITIES,
+            variant: 0,
             count: items.count,
             a: 0,
             b: 0,
@@ -565,15 +668,15 @@ fn item_fields(i: Item) -> Fields
     }
 }
 
-// Writes the records of the items from a place on, one after another, and answers the place after them.
-fn put_items_from(bytes: &[u8], start: usize, out: &mut [u8], at: usize) -> usize
+// Writes the records of those of a list from a place on, one after another, and answers the place after them.
+fn put_items_from(list: Listed, bytes: &[u8], start: usize, out: &mut [u8], at: usize) -> usize
     requires { ⌜ start ≤ length (now bytes) ⌝ }
-    ensures { λ r. ⌜ Written (now (out .entry)) at (encodeAll (itemRecords (drop start (now (bytes .entry))))) (now (out .exit)) r ⌝ }
+    ensures { λ r. ⌜ Written (now (out .entry)) at (encodeAll (listedRecords list (drop start (now (bytes .entry))))) (now (out .exit)) r ⌝ }
 {
     let mut place = at;
     let mut p = start;
     loop {
-        let read = item_at(bytes, p);
+        let read = listed_at(list, bytes, p);
         let ItemRead::Read { item, end } = read else {
             return place;
         };
@@ -600,7 +703,25 @@ fn put_pattern_items(bytes: &[u8], out: &mut [u8], at: usize) -> usize
     };
     let start = token::blanks_end(bytes, 0);
     let caret = optional_end(bytes, start, b'^');
-    put_items_from(bytes, token::blanks_end(bytes, caret), out, at)
+    let first = token::blanks_end(bytes, caret);
+    put_items_from(Listed::Items, bytes, first, out, at)
+}
+
+// Writes the records of communities; none where the operand is none.
+fn put_communities(bytes: &[u8], out: &mut [u8], at: usize) -> usize
+    requires { ⌜ length (now bytes) ≤ textLimit ⌝ }
+    ensures { λ r. ⌜ Written (now (out .entry)) at
+        (encodeAll (followingMeant (meaning Name.Communities (now (bytes .entry))))) (now (out .exit)) r ⌝ }
+{
+    let meant = communities_operand(bytes);
+    let Meant::Head {
+        fields: _,
+        following: _,
+    } = meant
+    else {
+        return at;
+    };
+    put_items_from(Listed::Communities, bytes, 0, out, at)
 }
 
 // What an operand of a test stands for.
@@ -617,6 +738,7 @@ pub fn meaning(name: Name, bytes: &[u8]) -> Meant
         Name::Peer => peer(bytes),
         Name::Time => time(bytes),
         Name::Network(relation) => network_operand(relation, bytes),
+        Name::Communities => communities_operand(bytes),
     }
 }
 
@@ -629,6 +751,7 @@ pub fn put_items(name: Name, bytes: &[u8], out: &mut [u8], at: usize) -> usize
     }
     match name {
         Name::Path => put_pattern_items(bytes, out, at),
+        Name::Communities => put_communities(bytes, out, at),
         _ => at,
     }
 }

@@ -19,7 +19,8 @@ use Rattle.aspath.specs.declared.Item.{Item}
 use Rattle.aspath.specs.declared.Item.the-variants.{Number, Other, Any}
 use Rattle.program.specs.declared.Fields.{Fields}
 use Rattle.program.specs.Readings.{byAs, byAddress, byBoth, and, or}
-use Rattle.program.specs.Records.{Head, type, attribute, path, peer, loops, bogon, network, time, Record, head, item, flip, pass}
+use Rattle.program.specs.Records.{Head, type, attribute, path, peer, loops, bogon, network, time, communities}
+use Rattle.program.specs.Records.{Record, head, item, flip, pass}
 use Rattle.program.specs.Records.{NetworkPossible, PossibleHead, ItemPossible, Possible}
 use Rattle.program.specs.Layout.{recordSize, fields, headFields, itemFields, fieldsOf, laid, encode, encodeAll}
 use Rattle.program.specs.Layout.{fieldsIn, recordIs, decode, onRecord, recordsUpTo, recordsIn}
@@ -95,6 +96,7 @@ head-same loops p = refl
 head-same bogon p = refl
 head-same (network r n s) p = rw (relation-same r, side-same s) (ap (λ (m : Network). some (head (network r m s))) (operand-same n p))
 head-same (time c seconds micros) p = rw (comparison-same c)
+head-same (communities count) p = refl
 
 item-same : (i : Item) → recordIs (itemFields i) ≡ some (item i)
 unfolding recordIs itemFields
@@ -124,6 +126,7 @@ head-fit loops p = omega arith
 head-fit bogon p = omega arith
 head-fit (network r n s) p = omega (arith, p .sized, p .word .below, relation-few r, side-few s)
 head-fit (time c seconds micros) p = omega (arith, p .word .below, p .fraction, comparison-few c)
+head-fit (communities count) p = omega (arith, p .few)
 
 item-fit : (i : Item) → ItemPossible i → Fit (itemFields i)
 unfolding itemFields

@@ -8,12 +8,14 @@ use mathlib.Core.List.{List, [], _∷_, _++_, append-assoc, append-nil}
 use lib.ListN.{length, drop, length-append, length-map}
 use lib.Seq.{drop-at, take-at}
 use Rattle.octets.specs.Choice.{pick}
-use Rattle.octets.specs.Lists.{Every}
+use Rattle.octets.specs.Lists.{Every, every-none}
+use Rattle.octets.proofs.Every.{every-map, every-places}
+use Rattle.aspath.specs.declared.Item.the-variants.{Number, Any}
 use Rattle.program.specs.declared.Spent.{Spent}
 use Rattle.program.specs.Spent.{spending, nothing, oneStep, together}
-use Rattle.program.specs.Readings.{Test, typeIs, hasAttribute, pathMatches, peerIs, hasLoop, hasBogon, networkIs, timeIs, itemCount}
+use Rattle.program.specs.Readings.{Test, typeIs, hasAttribute, pathMatches, peerIs, hasLoop, hasBogon, networkIs, timeIs, hasCommunities, itemCount}
 use Rattle.program.specs.Readings.{Operator, and, or, open′, joins, Reading, test, neg, joint, weight, verdict, spent}
-use Rattle.program.specs.Records.{Head, Record, head, item, flip, pass, Possible, countOf, Follows}
+use Rattle.program.specs.Records.{Head, Record, head, item, flip, pass, Possible, countOf, MayFollow, in-path, in-communities, Follows}
 use Rattle.program.specs.Compiling.{headOf, itemsOf, followingOf, records, programOf}
 use Rattle.program.specs.Machine.{exec, machine}
 use Rattle.program.proofs.LayoutLaws.{records-encoded}
@@ -31,6 +33,7 @@ items-counted hasLoop = refl
 items-counted hasBogon = refl
 items-counted (networkIs r n s) = refl
 items-counted (timeIs c s m) = refl
+items-counted (hasCommunities cs) = length-map cs Number
 
 -- and as its record says
 pub head-counts : (t : Test) → countOf (headOf t) ≡ length (itemsOf t)
@@ -43,10 +46,24 @@ head-counts hasLoop = refl
 head-counts hasBogon = refl
 head-counts (networkIs r n s) = refl
 head-counts (timeIs c s m) = refl
+head-counts (hasCommunities cs) = sym (length-map cs Number)
+
+-- each may follow it
+items-may : (t : Test) → Every (MayFollow (headOf t)) (itemsOf t)
+unfolding headOf itemsOf
+items-may (typeIs c) = every-none
+items-may (hasAttribute c) = every-none
+items-may (pathMatches p) = every-places (p .items) Any (λ i h. in-path)
+items-may (peerIs p) = every-none
+items-may hasLoop = every-none
+items-may hasBogon = every-none
+items-may (networkIs r n s) = every-none
+items-may (timeIs c s m) = every-none
+items-may (hasCommunities cs) = every-map {P = λ (n : ℕ). Unit {0}} Number (λ n q. in-communities) (every-places cs 0 (λ i h. tt))
 
 -- so what follows a test's record is what may follow it
 pub test-follows : (t : Test) → Follows (headOf t) (followingOf t)
-test-follows t = record { items = itemsOf t; are = refl; counted = sym (head-counts t) }
+test-follows t = record { items = itemsOf t; are = refl; counted = sym (head-counts t); each = items-may t }
 
 -- ---- how many records there are
 

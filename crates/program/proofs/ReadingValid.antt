@@ -11,12 +11,13 @@ use lib.Seq.{getD-append-add}
 use Rattle.octets.specs.Lists.{Every, every-none, every-more}
 use Rattle.octets.proofs.Every.{every-append, every-map, every-place}
 use Rattle.aspath.specs.declared.Item.{Item}
+use Rattle.aspath.specs.declared.Item.the-variants.{Number}
 use Rattle.aspath.specs.Patterns.{Pattern}
 use Rattle.program.specs.declared.Class.the-variants.{Test as aTest, Item as anItem}
-use Rattle.program.specs.Readings.{Test, typeIs, hasAttribute, pathMatches, peerIs, hasLoop, hasBogon, networkIs, timeIs, itemCount}
+use Rattle.program.specs.Readings.{Test, typeIs, hasAttribute, pathMatches, peerIs, hasLoop, hasBogon, networkIs, timeIs, hasCommunities, itemCount}
 use Rattle.program.specs.Readings.{Operator, Reading, test, neg, joint, weight}
 use Rattle.program.specs.Records.{Head, Record, head, item, flip, pass, weightLimit}
-use Rattle.program.specs.Records.{Code, ItemPossible, PeerPossible, NetworkPossible, TimePossible, PossibleHead, Possible}
+use Rattle.program.specs.Records.{Bits32, Code, ItemPossible, PeerPossible, NetworkPossible, TimePossible, PossibleHead, Possible}
 use Rattle.program.specs.Kinds.{classOf}
 use Rattle.program.specs.Compiling.{headOf, itemsOf, records, programOf}
 use Rattle.program.specs.Validity.{Grouped, end, a-test, a-flip, a-pass, Landing, at-end, on-record, Valid}
@@ -29,6 +30,11 @@ pub record PatternPossible (p : Pattern) : Type 0 where
   pub each : Every ItemPossible (p .items)
   pub some : p .start ≡ false → p .end ≡ false → length (p .items) ≡ 0 → ⊥
 
+-- one or more communities of 32 bits
+pub record AskedPossible (cs : List ℕ) : Type 0 where
+  pub each : Every Bits32 cs
+  pub some : 1 ≤ length cs
+
 -- a test that some text could give
 abbrev pub PossibleTest : Test → Type 0
 PossibleTest (typeIs c) = Code c
@@ -39,6 +45,7 @@ PossibleTest hasLoop = Unit {0}
 PossibleTest hasBogon = Unit {0}
 PossibleTest (networkIs r n s) = NetworkPossible n
 PossibleTest (timeIs c s m) = TimePossible s m
+PossibleTest (hasCommunities cs) = AskedPossible cs
 
 -- a reading of such tests
 abbrev pub PossibleReading : Reading → Type 0
@@ -63,6 +70,7 @@ head-possible hasLoop p h = tt
 head-possible hasBogon p h = tt
 head-possible (networkIs r n s) p h = p
 head-possible (timeIs c s m) p h = p
+head-possible (hasCommunities cs) p h = record { some = p .some; few = h }
 
 items-possible : (t : Test) → PossibleTest t → Every ItemPossible (itemsOf t)
 unfolding itemsOf
@@ -74,6 +82,7 @@ items-possible hasLoop p = every-none
 items-possible hasBogon p = every-none
 items-possible (networkIs r n s) p = every-none
 items-possible (timeIs c s m) p = every-none
+items-possible (hasCommunities cs) p = every-map Number (λ n q. q) (p .each)
 
 -- the records of a possible reading are possible
 pub records-possible : (r : Reading) → PossibleReading r → weight r ≤ weightLimit → Every Possible (records r)

@@ -20,13 +20,14 @@ use Rattle.aspath.specs.declared.Item.{Item}
 use Rattle.aspath.specs.declared.Item.the-variants.{Number, Other, Any}
 use Rattle.program.specs.declared.Fields.{Fields}
 use Rattle.program.specs.Readings.{byAs, byAddress, byBoth, and, or}
-use Rattle.program.specs.Records.{Head, type, attribute, path, peer, loops, bogon, network, time, Record, head, item, flip, pass}
-use Rattle.program.specs.Records.{weightLimit, second, codeLimit, PossibleHead, Possible, Bits32, Code, PassPossible}
+use Rattle.program.specs.Records.{Head, type, attribute, path, peer, loops, bogon, network, time, communities}
+use Rattle.program.specs.Records.{Record, head, item, flip, pass}
+use Rattle.program.specs.Records.{weightLimit, second, codeLimit, PossibleHead, Possible, Bits32, Code, PassPossible, CommunitiesPossible}
 use Rattle.program.specs.Kinds.{typeKind, attributeKind, pathKind, itemKind, peerKind, loopsKind, bogonKind, networkKind, timeKind}
-use Rattle.program.specs.Kinds.{flipKind, andKind, orKind}
+use Rattle.program.specs.Kinds.{flipKind, andKind, orKind, communitiesKind}
 use Rattle.program.specs.Layout.{recordSize, fields, endsCode, headFields, itemFields, fieldsOf, laid, encode}
 use Rattle.program.specs.Layout.{fieldsIn, isStart, isEnd, operandOf, recordIs, decode}
-use Rattle.program.specs.Checks.{unused, rightCode, rightPath, rightItem, rightPeer, rightNetwork, rightTime, rightBare, rightPass}
+use Rattle.program.specs.Checks.{unused, rightCode, rightPath, rightItem, rightPeer, rightNetwork, rightTime, rightCommunities, rightBare, rightPass}
 use Rattle.program.specs.Checks.{rightFields, rightRecord}
 use Rattle.program.proofs.Codes.{relation-few, side-few, comparison-few, ends-few, relation-code, side-code, comparison-code}
 use Rattle.program.proofs.Codes.{ends-code, no-ends, ends-none}
@@ -63,6 +64,14 @@ module _ (k v c a b : ℕ) where
       let z = each (leb (2 + c) weightLimit) _ (y .1) in
       let w = each (unused a) (unused b) (z .1) in
       (rw (eqb-true v 0 (x .0), eqb-true a 0 (w .0), eqb-true b 0 (w .1)), record { some = leb-true 1 c (y .0); few = leb-true (2 + c) weightLimit (z .0) })
+
+  right-communities : rightCommunities (fields k v c a b) ≡ true → (fields k 0 c 0 0 ≡ fields k v c a b) × CommunitiesPossible c
+  right-communities e =
+      let x = each (unused v) _ e in
+      let y = each (leb 1 c) _ (x .1) in
+      let z = each (ltb c weightLimit) _ (y .1) in
+      let w = each (unused a) (unused b) (z .1) in
+      (rw (eqb-true v 0 (x .0), eqb-true a 0 (w .0), eqb-true b 0 (w .1)), record { some = leb-true 1 c (y .0); few = ltb-true c weightLimit (z .0) })
 
 module _ (v c a b : ℕ) (wa : Bits32 a) (wb : Bits32 b) where
   right-path : rightPath (fields pathKind v c a b) ≡ true → Right (fields pathKind v c a b)
@@ -171,7 +180,9 @@ right-kind k v c a b wa wb =
     (choose k flipKind (λ q t. rw q (record { is = flip; said = refl; same = right-bare flipKind v c a b t; possible = tt }))
     (choose k andKind (λ q t. let x = right-pass andKind v c a b t in rw q (record { is = pass and c; said = refl; same = x .0; possible = x .1 }))
     (choose k orKind (λ q t. let x = right-pass orKind v c a b t in rw q (record { is = pass or c; said = refl; same = x .0; possible = x .1 }))
-    (λ e. never e))))))))))))
+    (choose k communitiesKind
+    (λ q t. let x = right-communities communitiesKind v c a b t in rw q (record { is = head (communities c); said = refl; same = x .0; possible = x .1 }))
+    (λ e. never e)))))))))))))
 
 right-fields : (f : Fields) → Bits32 (f .a) → Bits32 (f .b) → rightFields f ≡ true → Right f
 right-fields f wa wb e = right-kind (f .kind) (f .variant) (f .count) (f .a) (f .b) wa wb e
@@ -228,6 +239,7 @@ head-right (network r n s) p =
     (both-hold (le-leb _ addressBits (p .sized))
     (both-hold (le-leb _ 2 (side-few s)) (eq-eqb _ _ (sym (ap (λ (m : Network). m .address) (p .clear))))))
 head-right (time c seconds micros) p = both-hold (le-leb _ 4 (comparison-few c)) (lt-ltb micros second (p .fraction))
+head-right (communities count) p = both-hold (le-leb 1 count (p .some)) (both-hold (lt-ltb count weightLimit (p .few)) refl)
 
 item-right : (i : Item) → rightFields (itemFields i) ≡ true
 unfolding rightFields itemFields

@@ -13,7 +13,7 @@ use Rattle.program.specs.declared.Class.{Class}
 use Rattle.program.specs.declared.Class.the-variants.{Test, Item, Flip, Pass, Unknown}
 use Rattle.program.specs.Records.{weightLimit, second, codeLimit}
 use Rattle.program.specs.Kinds.{typeKind, attributeKind, pathKind, itemKind, peerKind, loopsKind, bogonKind, networkKind, timeKind}
-use Rattle.program.specs.Kinds.{flipKind, andKind, orKind, classIs}
+use Rattle.program.specs.Kinds.{flipKind, andKind, orKind, communitiesKind, classIs}
 use Rattle.program.specs.Layout.{recordSize, fieldsIn}
 
 -- nothing stands in a field
@@ -53,6 +53,13 @@ rightNetwork f =
 abbrev pub rightTime : Fields → Bool
 rightTime f = both (leb (f .variant) 4) (both (unused (f .count)) (ltb (f .b) second))
 
+abbrev pub rightCommunities : Fields → Bool
+rightCommunities f =
+    both (unused (f .variant))
+    (both (leb 1 (f .count))
+    (both (ltb (f .count) weightLimit)
+    (both (unused (f .a)) (unused (f .b)))))
+
 abbrev pub rightBare : Fields → Bool
 rightBare f = both (unused (f .variant)) (both (unused (f .count)) (both (unused (f .a)) (unused (f .b))))
 
@@ -76,7 +83,8 @@ rightFields f =
     (pick (eqb (f .kind) timeKind) (rightTime f)
     (pick (eqb (f .kind) flipKind) (rightBare f)
     (pick (eqb (f .kind) andKind) (rightPass f)
-    (pick (eqb (f .kind) orKind) (rightPass f) false)))))))))))
+    (pick (eqb (f .kind) orKind) (rightPass f)
+    (pick (eqb (f .kind) communitiesKind) (rightCommunities f) false))))))))))))
 
 -- and so are the last four bytes
 abbrev pub rightRecord : List ℕ → Bool
@@ -111,22 +119,33 @@ isPassClass Unknown = false
 
 -- ---- what follows a test
 
--- an item
-abbrev pub isItem : Fields → Bool
-isItem f = both (eqb (f .kind) itemKind) (leb (f .variant) 2)
+-- the last variant of an item, and of one that is a number
+abbrev pub lastVariant : ℕ
+lastVariant = 2
 
--- so many items stand at the front
-unfoldable pub itemsStand : ℕ → List ℕ → Bool
-itemsStand zero l = true
-itemsStand (suc n) l = pick (ltb (length l) recordSize) false (both (isItem (fieldsIn l)) (itemsStand n (drop recordSize l)))
+abbrev pub numberVariant : ℕ
+numberVariant = 0
+
+-- an item of a variant up to the last that may stand
+abbrev pub isItem : ℕ → Fields → Bool
+isItem last f = both (eqb (f .kind) itemKind) (leb (f .variant) last)
+
+-- so many of them stand at the front
+unfoldable pub itemsStand : ℕ → ℕ → List ℕ → Bool
+itemsStand last zero l = true
+itemsStand last (suc n) l = pick (ltb (length l) recordSize) false (both (isItem last (fieldsIn l)) (itemsStand last n (drop recordSize l)))
 
 -- how many records follow a record
 unfoldable pub followingIn : Fields → ℕ
-followingIn f = pick (eqb (f .kind) pathKind) (f .count) 0
+followingIn f = pick (eqb (f .kind) pathKind) (f .count) (pick (eqb (f .kind) communitiesKind) (f .count) 0)
+
+-- the last variant of the items that may follow it: behind a path any item, behind communities a number
+unfoldable pub lastItem : Fields → ℕ
+lastItem f = pick (eqb (f .kind) communitiesKind) numberVariant lastVariant
 
 -- what may follow a record stands at the front
 unfoldable pub followsIn : Fields → List ℕ → Bool
-followsIn f l = itemsStand (followingIn f) l
+followsIn f l = itemsStand (lastItem f) (followingIn f) l
 
 -- the bytes of a record of a class with those that follow it, 0 where it or they can't stand there
 abbrev pub groupOf : Class → Fields → List ℕ → ℕ

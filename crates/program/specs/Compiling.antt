@@ -3,9 +3,11 @@ use Prim.Native.Nat.{ℕ}
 use mathlib.Core.List.{List, [], _∷_, _++_, map}
 use lib.ListN.{length}
 use Rattle.aspath.specs.declared.Item.{Item}
-use Rattle.program.specs.Readings.{Test, typeIs, hasAttribute, pathMatches, peerIs, hasLoop, hasBogon, networkIs, timeIs}
+use Rattle.aspath.specs.declared.Item.the-variants.{Number}
+use Rattle.program.specs.Readings.{Test, typeIs, hasAttribute, pathMatches, peerIs, hasLoop, hasBogon, networkIs, timeIs, hasCommunities}
 use Rattle.program.specs.Readings.{Reading, test, neg, joint}
-use Rattle.program.specs.Records.{Head, type, attribute, path, peer, loops, bogon, network, time, Record, head, item, flip, pass}
+use Rattle.program.specs.Records.{Head, type, attribute, path, peer, loops, bogon, network, time, communities}
+use Rattle.program.specs.Records.{Record, head, item, flip, pass}
 use Rattle.program.specs.Layout.{encodeAll}
 
 -- the record of a test, and its items
@@ -18,6 +20,7 @@ headOf hasLoop = loops
 headOf hasBogon = bogon
 headOf (networkIs r n s) = network r n s
 headOf (timeIs c s m) = time c s m
+headOf (hasCommunities cs) = communities (length cs)
 
 unfoldable pub itemsOf : Test → List Item
 itemsOf (typeIs c) = []
@@ -28,6 +31,7 @@ itemsOf hasLoop = []
 itemsOf hasBogon = []
 itemsOf (networkIs r n s) = []
 itemsOf (timeIs c s m) = []
+itemsOf (hasCommunities cs) = map Number cs
 
 -- the records that follow a test's
 abbrev pub followingOf : Test → List Record

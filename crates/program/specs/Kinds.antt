@@ -1,4 +1,4 @@
--- The kinds of a program's records, by the paper's numbers, and the class of each.
+-- The kinds of a program's records, by the paper's numbers and, for 13, request 1's, and the class of each.
 use Prim.Native.Nat.{ℕ}
 use lib.Dec.{eqb, ltb}
 use Rattle.octets.specs.Choice.{pick}
@@ -43,6 +43,9 @@ andKind = 11
 abbrev pub orKind : ℕ
 orKind = 12
 
+abbrev pub communitiesKind : ℕ
+communitiesKind = 13
+
 abbrev pub operatorKind : Operator → ℕ
 operatorKind and = andKind
 operatorKind or = orKind
@@ -60,5 +63,5 @@ classOf (pass o count) = Pass
 unfoldable pub classIs : ℕ → Class
 classIs k =
     pick (ltb timeKind k)
-    (pick (eqb k flipKind) Flip (pick (eqb k andKind) Pass (pick (eqb k orKind) Pass Unknown)))
+    (pick (eqb k flipKind) Flip (pick (eqb k andKind) Pass (pick (eqb k orKind) Pass (pick (eqb k communitiesKind) Test Unknown))))
     (pick (eqb k itemKind) Item (pick (ltb k typeKind) Unknown Test))

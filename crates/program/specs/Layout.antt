@@ -15,9 +15,10 @@ use Rattle.aspath.specs.declared.Item.the-variants.{Number, Other, Any}
 use Rattle.program.specs.declared.Fields.{Fields}
 use Rattle.program.specs.Readings.{Peer, byAs, byAddress, byBoth, Side, eitherSide, announced, withdrawn}
 use Rattle.program.specs.Readings.{Comparison, equal, below, atMost, above, atLeast, and, or}
-use Rattle.program.specs.Records.{Head, type, attribute, path, peer, loops, bogon, network, time, Record, head, item, flip, pass}
+use Rattle.program.specs.Records.{Head, type, attribute, path, peer, loops, bogon, network, time, communities}
+use Rattle.program.specs.Records.{Record, head, item, flip, pass}
 use Rattle.program.specs.Kinds.{typeKind, attributeKind, pathKind, itemKind, peerKind, loopsKind, bogonKind, networkKind, timeKind}
-use Rattle.program.specs.Kinds.{flipKind, andKind, orKind, operatorKind}
+use Rattle.program.specs.Kinds.{flipKind, andKind, orKind, communitiesKind, operatorKind}
 
 abbrev pub recordSize : ℕ
 recordSize = 16
@@ -48,7 +49,7 @@ comparisonCode atMost = 2
 comparisonCode above = 3
 comparisonCode atLeast = 4
 
--- the paper's table of kinds
+-- the paper's table of kinds, with 13 of request 1
 
 unfoldable pub headFields : Head → Fields
 headFields (type c) = fields typeKind 0 0 c 0
@@ -61,6 +62,7 @@ headFields loops = fields loopsKind 0 0 0 0
 headFields bogon = fields bogonKind 0 0 0 0
 headFields (network r n s) = fields networkKind (relationCode r) (n .len) (n .address) (sideCode s)
 headFields (time c seconds micros) = fields timeKind (comparisonCode c) 0 seconds micros
+headFields (communities count) = fields communitiesKind 0 count 0 0
 
 unfoldable pub itemFields : Item → Fields
 itemFields (Number n) = fields itemKind 0 0 n 0
@@ -142,7 +144,8 @@ recordIs f =
     (pick (eqb (f .kind) timeKind) (onward (comparisonIs (f .variant)) (λ c. some (head (time c (f .a) (f .b)))))
     (pick (eqb (f .kind) flipKind) (some flip)
     (pick (eqb (f .kind) andKind) (some (pass and (f .count)))
-    (pick (eqb (f .kind) orKind) (some (pass or (f .count))) none)))))))))))
+    (pick (eqb (f .kind) orKind) (some (pass or (f .count)))
+    (pick (eqb (f .kind) communitiesKind) (some (head (communities (f .count)))) none))))))))))))
 
 -- the record at the front of bytes, if one stands there
 abbrev pub decode : List ℕ → Option Record

@@ -1,6 +1,7 @@
 -- A reading (the paper's term): the tree that the grammar derives for a text, each test with what its operand stands for.
 use Prim.Native.Nat.{ℕ, _+_}
 use mathlib.Core.Bool.{Bool, true, not}
+use mathlib.Core.List.{List}
 use lib.ListN.{length}
 use Rattle.octets.specs.Choice.{pick, both}
 use Rattle.network.specs.Networks.{Network}
@@ -34,6 +35,8 @@ pub data Test : Type 0 where
   networkIs : Relation → Network → Side → Test
   -- seconds and microseconds
   timeIs : Comparison → ℕ → ℕ → Test
+  -- the communities asked for (request 1)
+  hasCommunities : List ℕ → Test
 
 -- `-and`, `-or`
 pub data Operator : Type 0 where
@@ -54,6 +57,7 @@ itemCount hasLoop = 0
 itemCount hasBogon = 0
 itemCount (networkIs r n s) = 0
 itemCount (timeIs c s m) = 0
+itemCount (hasCommunities cs) = length cs
 
 -- the weight (the paper's term): each test, item, `!`, `-and`, `-or` counts one
 unfoldable pub weight : Reading → ℕ

@@ -4,6 +4,7 @@ use mathlib.Core.Path.{_≡_}
 use mathlib.Core.Bool.{Bool, false}
 use mathlib.Core.List.{List, map}
 use lib.ListN.{length}
+use Rattle.octets.specs.Lists.{Every}
 use Rattle.network.specs.declared.Relation.{Relation}
 use Rattle.network.specs.Networks.{addressBits, Network, masked}
 use Rattle.aspath.specs.declared.Item.{Item}
@@ -21,6 +22,8 @@ pub data Head : Type 0 where
   bogon : Head
   network : Relation → Network → Side → Head
   time : Comparison → ℕ → ℕ → Head
+  -- the count of the communities that follow
+  communities : ℕ → Head
 
 pub data Record : Type 0 where
   head : Head → Record
@@ -70,6 +73,11 @@ pub record PathPossible (start end : Bool) (count : ℕ) : Type 0 where
   pub few : count < weightLimit
   pub some : start ≡ false → end ≡ false → count ≡ 0 → ⊥
 
+-- communities are one or more (request 1)
+pub record CommunitiesPossible (count : ℕ) : Type 0 where
+  pub some : 1 ≤ count
+  pub few : count < weightLimit
+
 -- a time's microseconds are below a million
 pub record TimePossible (seconds micros : ℕ) : Type 0 where
   pub word : Bits32 seconds
@@ -90,6 +98,7 @@ PossibleHead loops = Unit {0}
 PossibleHead bogon = Unit {0}
 PossibleHead (network r n s) = NetworkPossible n
 PossibleHead (time c seconds micros) = TimePossible seconds micros
+PossibleHead (communities count) = CommunitiesPossible count
 
 -- a record that compiling some text could give
 abbrev pub Possible : Record → Type 0
@@ -108,9 +117,16 @@ countOf loops = 0
 countOf bogon = 0
 countOf (network r n s) = 0
 countOf (time c s m) = 0
+countOf (communities count) = count
 
--- what may follow a head: as many items as its count
+-- the items that may follow a head: a path's are any, communities are numbers (request 1)
+pub data MayFollow : Head → Item → Type 0 where
+  in-path : {start end : Bool} {count : ℕ} {i : Item} → MayFollow (path start end count) i
+  in-communities : {count n : ℕ} → MayFollow (communities count) (Number n)
+
+-- what may follow a head: such items, as many as its count
 pub record Follows (h : Head) (following : List Record) : Type 0 where
   pub items : List Item
   pub are : following ≡ map item items
   pub counted : length items ≡ countOf h
+  pub each : Every (MayFollow h) items

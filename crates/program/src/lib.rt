@@ -6,9 +6,9 @@ ghost use Rattle.octets.specs.Rows.{whole};
 ghost use Rattle.octets.specs.Writes.{Written};
 ghost use Rattle.program.specs.Kinds.{classIs};
 ghost use Rattle.program.specs.Layout.{recordSize, fieldsIn, laid};
-ghost use Rattle.program.specs.Checks.{rightCode, rightPath, rightItem, rightPeer, rightNetwork, rightTime, rightBare, rightPass};
+ghost use Rattle.program.specs.Checks.{rightCode, rightPath, rightItem, rightPeer, rightNetwork, rightTime, rightBare, rightPass, rightCommunities};
 ghost use Rattle.program.specs.Checks.{rightFields, rightRecord, allRightIn, isTestClass, isItemClass, isPassClass};
-ghost use Rattle.program.specs.Checks.{isItem, itemsStand, groupOf};
+ghost use Rattle.program.specs.Checks.{isItem, itemsStand, lastItem, groupOf};
 ghost use Rattle.program.specs.declared.Class.the-variants.{Test};
 ghost use Rattle.program.specs.Checks.{followingIn, followsIn, groupSize, landsWell, landingIn, isValid};
 
@@ -52,10 +52,14 @@ pub const AND: u32 = 11;
 
 pub const OR: u32 = 12;
 
-// The last variants of a path, an item, a network, a side and a comparison.
+pub const COMMUNITIES: u32 = 13;
+
+// The last variants of a path, an item, an item that is a number, a network, a side and a comparison.
 pub const LAST_ENDS: u32 = 3;
 
 const LAST_ITEM: u32 = 2;
+
+const LAST_NUMBER: u32 = 0;
 
 pub const LAST_RELATION: u32 = 3;
 
@@ -99,6 +103,9 @@ pub fn class_of(kind: u32) -> Class
         }
         if kind == OR {
             return Class::Pass;
+        }
+        if kind == COMMUNITIES {
+            return Class::Test;
         }
         return Class::Unknown;
     }
@@ -267,6 +274,24 @@ fn right_time(f: Fields) -> bool
     f.b < SECOND
 }
 
+fn right_communities(f: Fields) -> bool
+    ensures { λ r. ⌜ r ≡ rightCommunities f ⌝ }
+{
+    if f.variant != 0 {
+        return false;
+    }
+    if f.count < 1 {
+        return false;
+    }
+    if COUNT_LIMIT <= f.count {
+        return false;
+    }
+    if f.a != 0 {
+        return false;
+    }
+    f.b == 0
+}
+
 fn right_bare(f: Fields) -> bool
     ensures { λ r. ⌜ r ≡ rightBare f ⌝ }
 {
@@ -318,6 +343,7 @@ fn right_fields(f: Fields) -> bool
         FLIP => right_bare(f),
         AND => right_pass(f),
         OR => right_pass(f),
+        COMMUNITIES => right_communities(f),
         _ => false,
     }
 }
@@ -347,19 +373,19 @@ fn all_right(program: &[u8]) -> bool
     true
 }
 
-// Whether a record is an item.
-fn holds_item(f: Fields) -> bool
-    ensures { λ r. ⌜ r ≡ isItem f ⌝ }
+// Whether a record is an item of a variant up to the last that may stand.
+fn holds_item(f: Fields, last: u32) -> bool
+    ensures { λ r. ⌜ r ≡ isItem last f ⌝ }
 {
     if f.kind != ITEM {
         return false;
     }
-    f.variant <= LAST_ITEM
+    f.variant <= last
 }
 
-// Whether so many items stand at the front of records.
-fn items_stand(records: &[u8], count: usize) -> bool
-    ensures { λ r. ⌜ r ≡ itemsStand count (now (records .entry)) ⌝ }
+// Whether so many of them stand at the front of records.
+fn items_stand(records: &[u8], count: usize, last: u32) -> bool
+    ensures { λ r. ⌜ r ≡ itemsStand last count (now (records .entry)) ⌝ }
 {
     let mut at = 0;
     let mut left = count;
@@ -367,7 +393,7 @@ fn items_stand(records: &[u8], count: usize) -> bool
         if records.len() - at < RECORD_SIZE {
             return false;
         }
-        if !holds_item(fields_at(records, at)) {
+        if !holds_item(fields_at(records, at), last) {
             return false;
         }
         at += RECORD_SIZE;
@@ -376,21 +402,34 @@ fn items_stand(records: &[u8], count: usize) -> bool
     true
 }
 
-// How many records follow a record of these fields: the items of a path.
+// How many records follow a record of these fields: the items of a path, or communities.
 pub fn following(f: Fields) -> u32
     ensures { λ r. ⌜ r ≡ followingIn f ⌝ }
 {
     if f.kind == PATH {
         return f.count;
     }
+    if f.kind == COMMUNITIES {
+        return f.count;
+    }
     0
+}
+
+// The last variant of the items that may follow it.
+fn last_item(f: Fields) -> u32
+    ensures { λ r. ⌜ r ≡ lastItem f ⌝ }
+{
+    if f.kind == COMMUNITIES {
+        return LAST_NUMBER;
+    }
+    LAST_ITEM
 }
 
 // Whether what may follow a record of these fields stands at the front of records.
 pub fn follows(f: Fields, records: &[u8]) -> bool
     ensures { λ r. ⌜ r ≡ followsIn f (now (records .entry)) ⌝ }
 {
-    items_stand(records, following(f) as usize)
+    items_stand(records, following(f) as usize, last_item(f))
 }
 
 // The bytes of a test of these fields with the records from a place on that follow it, 0 where these aren't what may follow it.
@@ -401,7 +440,7 @@ fn test_size(f: Fields, program: &[u8], next: usize) -> usize
     if count == 0 {
         return RECORD_SIZE;
     }
-    if !items_stand(octets::rest(program, next), count) {
+    if !items_stand(octets::rest(program, next), count, last_item(f)) {
         return 0;
     }
     RECORD_SIZE + RECORD_SIZE * count

@@ -18,7 +18,7 @@ blank-complete tab = refl
 blank-complete lineFeed = refl
 
 -- what is no blank doesn't
-letter-blank : (b : ℕ) → Letter b → isBlank b ≡ false
+pub letter-blank : (b : ℕ) → Letter b → isBlank b ≡ false
 unfolding isBlank
 letter-blank b l = rw (
   ne-eqb b 32 (λ e. l .no-blank (rw e space)),

@@ -118,6 +118,13 @@ pub fn blanks_end(text: &[u8], at: usize) -> usize
     run_end(text, at, Run::Blanks)
 }
 
+// Where the letters of a word from a place on end.
+pub fn letters_end(text: &[u8], at: usize) -> usize
+    ensures { λ r. ⌜ r ≡ runEnd isLetter (now (text .entry)) at ⌝ }
+{
+    run_end(text, at, Run::Letters)
+}
+
 fn span(sort: Sort, start: usize, end: usize) -> Lexeme
     ensures { λ r. ⌜ r ≡ lexeme sort start end ⌝ }
 {

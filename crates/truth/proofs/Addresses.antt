@@ -16,7 +16,7 @@ use Rattle.network.proofs.Clearing.{cleared-le}
 use Rattle.message.specs.Message.{Message}
 use Rattle.message.specs.Represents.{BodyBytes, is-update, is-other, Represents}
 use Rattle.program.specs.Readings.{Side, eitherSide, announced, withdrawn, Reading, test, neg, joint}
-use Rattle.program.specs.Readings.{Test, typeIs, hasAttribute, pathMatches, peerIs, hasLoop, hasBogon, networkIs, timeIs}
+use Rattle.program.specs.Readings.{Test, typeIs, hasAttribute, pathMatches, peerIs, hasLoop, hasBogon, networkIs, timeIs, hasCommunities}
 use Rattle.program.specs.Records.{NetworkPossible, PossibleHead}
 use Rattle.program.specs.Compiling.{headOf}
 use Rattle.program.proofs.ReadingValid.{PossibleTest, PossibleReading}
@@ -41,6 +41,7 @@ OperandAddressed hasLoop = Unit {0}
 OperandAddressed hasBogon = Unit {0}
 OperandAddressed (networkIs r n s) = Addressed n
 OperandAddressed (timeIs c s m) = Unit {0}
+OperandAddressed (hasCommunities cs) = Unit {0}
 
 -- so has that of every test of a reading
 abbrev pub OperandsAddressed : Reading → Type 0
@@ -95,6 +96,7 @@ possible-addressed hasLoop p = tt
 possible-addressed hasBogon p = tt
 possible-addressed (networkIs r n s) p = network-addressed p
 possible-addressed (timeIs c s m) p = tt
+possible-addressed (hasCommunities cs) p = tt
 
 -- a test whose record some text could give
 pub head-addressed : (t : Test) → PossibleHead (headOf t) → OperandAddressed t
@@ -107,6 +109,7 @@ head-addressed hasLoop p = tt
 head-addressed hasBogon p = tt
 head-addressed (networkIs r n s) p = network-addressed p
 head-addressed (timeIs c s m) p = tt
+head-addressed (hasCommunities cs) p = tt
 
 -- a reading of such tests
 pub reading-addressed : (r : Reading) → PossibleReading r → OperandsAddressed r

@@ -18,7 +18,8 @@ use Rattle.attributes.proofs.ByCode.{by-code, said-other}
 -- what a raw attribute says has its code
 said-code : (w : ℕ) (r : Raw) → codeOf (said w r) ≡ r .code
 unfolding said codeOf
-said-code w = by-code (λ body. refl) (λ body. refl) (λ body. refl) (λ body. refl) (λ r u. rw (said-other w r u) refl)
+said-code w =
+    by-code (λ body. refl) (λ body. refl) (λ body. refl) (λ body. refl) (λ body. refl) (λ body. refl) (λ r u. rw (said-other w r u) refl)
 
 raws-coded : (w code : ℕ) (raws : List Raw) → somePasses (λ a. eqb (codeOf a) code) (map (said w) raws) ≡ elem code (codes raws)
 unfolding elem somePasses

@@ -8,9 +8,9 @@ use borrow.Author.Tests.{eq-eqb, ne-eqb}
 use Rattle.octets.specs.Choice.{pick, onward}
 use Rattle.program.specs.declared.Fields.{Fields}
 use Rattle.program.specs.Readings.{and, or}
-use Rattle.program.specs.Records.{type, attribute, peer, loops, bogon, time, Record, head, item, flip, pass}
+use Rattle.program.specs.Records.{type, attribute, peer, loops, bogon, time, communities, Record, head, item, flip, pass}
 use Rattle.program.specs.Kinds.{typeKind, attributeKind, pathKind, itemKind, peerKind, loopsKind, bogonKind, networkKind, timeKind}
-use Rattle.program.specs.Kinds.{flipKind, andKind, orKind}
+use Rattle.program.specs.Kinds.{flipKind, andKind, orKind, communitiesKind}
 use Rattle.program.specs.Layout.{relationIs, sideIs, comparisonIs, itemIs, peerIs, pathIs, operandOf, networkSaid, recordIs}
 
 module _ (P : Option Record → Type 0) where
@@ -35,10 +35,11 @@ module _ (P : Option Record → Type 0) where
       → P (some flip)
       → P (some (pass and (f .count)))
       → P (some (pass or (f .count)))
+      → (f .kind ≡ communitiesKind → P (some (head (communities (f .count)))))
       → P none
       → P (recordIs f)
   unfolding recordIs
-  by-kind f a b c d e g h i j k l m n =
+  by-kind f a b c d e g h i j k l m n o =
       let kind = f .kind in
       choose kind typeKind a
       (choose kind attributeKind b
@@ -51,4 +52,5 @@ module _ (P : Option Record → Type 0) where
       (choose kind timeKind j
       (choose kind flipKind (λ q. k)
       (choose kind andKind (λ q. l)
-      (choose kind orKind (λ q. m) n)))))))))))
+      (choose kind orKind (λ q. m)
+      (choose kind communitiesKind n o))))))))))))

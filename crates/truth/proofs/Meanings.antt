@@ -18,12 +18,14 @@ use Rattle.aspath.specs.Patterns.{matches}
 use Rattle.aspath.proofs.MeaningLoops.{loop-sound, loop-complete}
 use Rattle.aspath.proofs.MeaningBogons.{some-sound, some-complete}
 use Rattle.aspath.proofs.MeaningPatterns.{matches-sound, matches-complete}
-use Rattle.attributes.specs.Attribute.{firstOf, askPath}
+use Rattle.communities.specs.Communities.{holdsAll}
+use Rattle.communities.proofs.Holding.{holds-all-sound, holds-all-complete}
+use Rattle.attributes.specs.Attribute.{firstOf, askPath, askCommunities}
 use Rattle.message.specs.Message.{Message, update}
 use Rattle.program.specs.Readings.{byAs, byAddress, byBoth, Side, Comparison, equal, below, atMost, above, atLeast}
-use Rattle.program.specs.Readings.{Test, typeIs, hasAttribute, pathMatches, peerIs, hasLoop, hasBogon, networkIs, timeIs}
-use Rattle.truth.specs.Means.{HasPath, HasCode, HasPrefix, Compares}
-use Rattle.truth.specs.Means.{Means, type, attribute, path, peerNumber, peerAddress, peerBoth, loop, bogon, network, time}
+use Rattle.program.specs.Readings.{Test, typeIs, hasAttribute, pathMatches, peerIs, hasLoop, hasBogon, networkIs, timeIs, hasCommunities}
+use Rattle.truth.specs.Means.{HasPath, HasCode, HasPrefix, HasCommunities, Compares}
+use Rattle.truth.specs.Means.{Means, type, attribute, path, peerNumber, peerAddress, peerBoth, loop, bogon, network, time, communities}
 use Rattle.truth.specs.Means.{ifAny, onPath, somePrefix, compares, isTrue}
 use Rattle.truth.proofs.Addresses.{PrefixesAddressed, OperandAddressed, side-addressed}
 
@@ -77,6 +79,20 @@ path-complete : {m : Message} {p : List Member} → HasPath m p → (test : List
 unfolding onPath
 path-complete h test e = pick-both _ _ .1 (eq-eqb _ _ (h .is-update), rw (h .present, h .joined) e)
 
+-- communities that were found are held
+communities-sound : (m : Message) (asked : List ℕ) → isTrue m (hasCommunities asked) ≡ true → HasCommunities m asked
+unfolding isTrue
+communities-sound m asked e = let b = pick-both _ _ .0 e in go (eqb-true _ _ (b .0)) (firstOf askCommunities (m .attributes)) refl (b .1)
+  where
+    go : m .type ≡ update → (o : Option (List ℕ)) → firstOf askCommunities (m .attributes) ≡ o → ifAny o (λ held. holdsAll held asked) ≡ true → HasCommunities m asked
+    go u none f k = never k
+    go u (some held) f k = record { is-update = u; held = held; present = f; all = holds-all-sound held asked k }
+
+-- and none is missed
+communities-complete : {m : Message} {asked : List ℕ} → HasCommunities m asked → isTrue m (hasCommunities asked) ≡ true
+unfolding isTrue
+communities-complete h = pick-both _ _ .1 (eq-eqb _ _ (h .is-update), rw (h .present) (holds-all-complete _ _ (h .all)))
+
 -- times compare as the test says
 compares-means : (c : Comparison) (a b : ℕ) → (compares c a b ≡ true) ↔ Compares c a b
 compares-means equal a b = (eqb-true a b, eq-eqb a b)
@@ -100,6 +116,7 @@ means-sound m hasLoop e = let o = path-sound m loops.hasLoop e in loop (o .1) (l
 means-sound m hasBogon e = let o = path-sound m someBogon e in bogon (o .1) (some-sound (o .2))
 means-sound m (networkIs r n s) e = network (prefix-sound m r n s e)
 means-sound m (timeIs c seconds micros) e = time (compares-means c _ _ .0 e)
+means-sound m (hasCommunities asked) e = communities (communities-sound m asked e)
 
 -- and no true test is missed, where the addresses that it compares have their networks' bits
 pub means-complete : {m : Message} {t : Test} → PrefixesAddressed m → OperandAddressed t → Means m t → isTrue m t ≡ true
@@ -114,6 +131,7 @@ means-complete a o (loop h x) = path-complete h loops.hasLoop (loop-complete x)
 means-complete a o (bogon h x) = path-complete h someBogon (some-complete x)
 means-complete a o (network h) = prefix-complete a o h
 means-complete a o (time {c = c} x) = compares-means c _ _ .1 x
+means-complete a o (communities h) = communities-complete h
 
 -- so the test decides what it means
 pub means-decided : (m : Message) (t : Test) → PrefixesAddressed m → OperandAddressed t → (isTrue m t ≡ true) ↔ Means m t

@@ -1,7 +1,7 @@
 -- Laws of the truth of the record at a place of a program, by its kind. Assumes nothing.
 use Prim.Native.Nat.{ℕ}
 use native.Mathlib.Decide.{ℕ-discrete}
-use mathlib.Core.Path.{_≡_, refl, sym, _∙_}
+use mathlib.Core.Path.{_≡_, refl, sym, ap, _∙_}
 use mathlib.Core.Bool.{Bool, true, false}
 use mathlib.Core.Option.{Option, some, none}
 use mathlib.Core.List.{List}
@@ -16,7 +16,8 @@ use Rattle.aspath.specs.declared.Item.{Item}
 use Rattle.aspath.specs.Members.{Segment, members}
 use Rattle.aspath.specs.Patterns.{matches}
 use Rattle.aspath.specs.Wire.{widthBytes}
-use Rattle.attributes.specs.Attribute.{firstOf, askPath}
+use Rattle.communities.specs.Communities.{holdsAll}
+use Rattle.attributes.specs.Attribute.{firstOf, askPath, askCommunities}
 use Rattle.attributes.specs.Wire.{rawsOf, codes}
 use Rattle.attributes.specs.Codes.{elem}
 use Rattle.attributes.specs.Bodies.{attributesOf}
@@ -25,16 +26,16 @@ use Rattle.message.specs.Message.{Message, update}
 use Rattle.message.specs.Decode.{partOf, messageAt}
 use Rattle.program.specs.declared.Fields.{Fields}
 use Rattle.program.specs.Readings.{Side}
-use Rattle.program.specs.Records.{Head, path, peer, time, Record, head, item, countOf}
-use Rattle.program.specs.Kinds.{typeKind, attributeKind, pathKind, peerKind, loopsKind, bogonKind, networkKind, timeKind}
+use Rattle.program.specs.Records.{Head, path, peer, time, communities, Record, head, item, countOf}
+use Rattle.program.specs.Kinds.{typeKind, attributeKind, pathKind, peerKind, loopsKind, bogonKind, networkKind, timeKind, communitiesKind}
 use Rattle.program.specs.Layout.{recordSize, relationIs, sideIs, comparisonIs, itemIs, peerIs, isStart, isEnd, pathIs, operandOf, networkSaid}
 use Rattle.program.specs.Layout.{fieldsIn, recordIs, recordsIn}
-use Rattle.program.specs.Checks.{itemsStand, followingIn, followsIn}
+use Rattle.program.specs.Checks.{lastVariant, numberVariant, itemsStand, followingIn, lastItem, followsIn}
 use Rattle.truth.specs.Means.{ifAny, onPath, somePrefix, prefixesOn, isTrue}
 use Rattle.truth.specs.Records.{recordTruth, truthOf, truthAt}
-use Rattle.truth.specs.Matching.{peerTest, timeTest, networkTest, itemsIn, patternOf, pathTest}
+use Rattle.truth.specs.Matching.{peerTest, timeTest, networkTest, itemsIn, numbersIn, patternOf, pathTest, communitiesTest}
 use Rattle.truth.proofs.CodeReads.{some-coded}
-use Rattle.truth.proofs.ItemReads.{items-true}
+use Rattle.truth.proofs.ItemReads.{finds-items, finds-numbers, each-true}
 use Rattle.truth.proofs.KindReads.{by-kind}
 
 -- the bytes behind the record at a place
@@ -43,13 +44,15 @@ behind program at = drop recordSize (drop at program)
 
 -- ---- tests of what is there
 
--- two tests more come to the same before it and in it
+-- a test more comes to the same before it and in it
+one-any : {A : Type 0} (b : Bool) (o : Option A) (test : A → Bool) → both b (ifAny o test) ≡ ifAny o (λ a. both b (test a))
+one-any true o test = refl
+one-any false none test = refl
+one-any false (some a) test = refl
+
+-- and so do two
 both-any : {A : Type 0} (b c : Bool) (o : Option A) (test : A → Bool) → both b (both c (ifAny o test)) ≡ ifAny o (λ a. both b (both c (test a)))
-both-any true true o test = refl
-both-any true false none test = refl
-both-any true false (some a) test = refl
-both-any false c none test = refl
-both-any false c (some a) test = refl
+both-any b c o test = ap (both b) (one-any c o test) ∙ one-any b o (λ a. both c (test a))
 
 -- ---- what fields say
 
@@ -79,14 +82,22 @@ module _ (m : Message) (rest : List ℕ) where
   -- a path
   path-said : (f : Fields)
       → said (onward (pathIs (f .variant) (f .count)) (λ h. some (head h)))
-      ≡ both (leb (f .variant) 3) (both (itemsStand (f .count) rest) (onPath m (matches (patternOf f (itemsIn (f .count) rest)))))
+      ≡ both (leb (f .variant) 3) (both (itemsStand lastVariant (f .count) rest) (onPath m (matches (patternOf f (itemsIn (f .count) rest)))))
   unfolding recordTruth isTrue countOf
   path-said f = go (leb (f .variant) 3)
     where
       go : (b : Bool) → said (onward (pick b (some (path (isStart (f .variant)) (isEnd (f .variant)) (f .count))) none) (λ h. some (head h)))
-          ≡ both b (both (itemsStand (f .count) rest) (onPath m (matches (patternOf f (itemsIn (f .count) rest)))))
-      go true = items-true (f .count) rest (λ items. onPath m (matches (patternOf f items)))
+          ≡ both b (both (itemsStand lastVariant (f .count) rest) (onPath m (matches (patternOf f (itemsIn (f .count) rest)))))
+      go true = each-true finds-items (f .count) rest (λ items. onPath m (matches (patternOf f items)))
       go false = refl
+
+  -- communities
+  communities-said : (f : Fields) → said (some (head (communities (f .count))))
+      ≡ both (itemsStand numberVariant (f .count) rest) (both (eqb (m .type) update)
+      (ifAny (firstOf askCommunities (m .attributes)) (λ held. holdsAll held (numbersIn (f .count) rest))))
+  unfolding recordTruth isTrue countOf
+  communities-said f =
+      each-true finds-numbers (f .count) rest (λ asked. both (eqb (m .type) update) (ifAny (firstOf askCommunities (m .attributes)) (λ held. holdsAll held asked)))
 
   -- an item
   item-said : (o : Option Item) → said (onward o (λ i. some (item i))) ≡ false
@@ -95,11 +106,12 @@ module _ (m : Message) (rest : List ℕ) where
 
   -- a record of no test is false
   none-said : (f : Fields) → (f .kind ≡ typeKind → ⊥) → (f .kind ≡ attributeKind → ⊥) → (f .kind ≡ pathKind → ⊥) → (f .kind ≡ peerKind → ⊥)
-      → (f .kind ≡ loopsKind → ⊥) → (f .kind ≡ bogonKind → ⊥) → (f .kind ≡ networkKind → ⊥) → (f .kind ≡ timeKind → ⊥) → said (recordIs f) ≡ false
-  none-said f a b c d e g h i =
+      → (f .kind ≡ loopsKind → ⊥) → (f .kind ≡ bogonKind → ⊥) → (f .kind ≡ networkKind → ⊥) → (f .kind ≡ timeKind → ⊥)
+      → (f .kind ≡ communitiesKind → ⊥) → said (recordIs f) ≡ false
+  none-said f a b c d e g h i j =
       by-kind (λ o. said o ≡ false) f
       (λ k. absurd (a k)) (λ k. absurd (b k)) (λ k. absurd (c k)) (λ k. item-said (itemIs (f .variant) (f .a))) (λ k. absurd (d k)) (λ k. absurd (e k))
-      (λ k. absurd (g k)) (λ k. absurd (h k)) (λ k. absurd (i k)) refl refl refl refl
+      (λ k. absurd (g k)) (λ k. absurd (h k)) (λ k. absurd (i k)) refl refl refl (λ k. absurd (j k)) refl
 
 module _ (s : List ℕ) (p : Parts) (program : List ℕ) (at : ℕ) {f : Fields} (read : f ≡ fieldsIn (drop at program)) where
   abbrev m : Message
@@ -131,13 +143,14 @@ module _ (s : List ℕ) (p : Parts) (program : List ℕ) (at : ℕ) {f : Fields}
   other-true a b c u =
       let n : eqb (p .code) update ≡ false = ne-eqb _ _ u in
       let rest = behind program at in
-      let off : both (leb (f .variant) 3) (both (itemsStand (f .count) rest) false) ≡ false
-      = alike (leb (f .variant) 3) (alike (itemsStand (f .count) rest) refl refl) refl in
+      let off : both (leb (f .variant) 3) (both (itemsStand lastVariant (f .count) rest) false) ≡ false
+      = alike (leb (f .variant) 3) (alike (itemsStand lastVariant (f .count) rest) refl refl) refl in
       fields-said
       ∙ by-kind (λ o. said m rest o ≡ false) f
       (λ k. absurd (a k)) (λ k. rw n refl) (λ k. path-said m rest f ∙ rw n off) (λ k. item-said m rest (itemIs (f .variant) (f .a)))
       (λ k. absurd (b k)) (λ k. rw n refl) (λ k. rw n refl)
-      (λ k. network-said m rest f ∙ rw n refl) (λ k. absurd (c k)) refl refl refl refl
+      (λ k. network-said m rest f ∙ rw n refl) (λ k. absurd (c k)) refl refl refl
+      (λ k. communities-said m rest f ∙ rw n (alike (itemsStand numberVariant (f .count) rest) refl refl)) refl
 
   module _ (u : p .code ≡ update) where
     -- a network
@@ -150,15 +163,24 @@ module _ (s : List ℕ) (p : Parts) (program : List ℕ) (at : ℕ) {f : Fields}
     unfolding recordTruth recordIs isTrue messageAt
     attribute-true k = fields-said ∙ rw (k, eq-eqb _ _ u) (some-coded (widthBytes (p .width)) (f .a) (partOf s (p .attributes)))
 
+    -- communities
+    pub communities-true : f .kind ≡ communitiesKind → truthAt m program at
+        ≡ ifAny (firstOf askCommunities (attributesOf (widthBytes (p .width)) (partOf s (p .attributes)))) (communitiesTest f (behind program at))
+    unfolding recordIs messageAt followingIn lastItem followsIn
+    communities-true k =
+        fields-said ∙ rw k (communities-said m (behind program at) f
+        ∙ rw (eq-eqb _ _ u) (one-any (itemsStand numberVariant (f .count) (behind program at))
+        (firstOf askCommunities (attributesOf (widthBytes (p .width)) (partOf s (p .attributes)))) (λ held. holdsAll held (numbersIn (f .count) (behind program at)))))
+
     -- the segments of the path
     abbrev segments : Option (List Segment)
     segments = firstOf askPath (attributesOf (widthBytes (p .width)) (partOf s (p .attributes)))
 
     -- the path, or no test
     pub path-true : (f .kind ≡ typeKind → ⊥) → (f .kind ≡ attributeKind → ⊥) → (f .kind ≡ peerKind → ⊥) → (f .kind ≡ networkKind → ⊥)
-        → (f .kind ≡ timeKind → ⊥) → truthAt m program at ≡ ifAny segments (λ x. pathTest f (behind program at) (members x))
-    unfolding recordTruth recordIs isTrue onPath messageAt pathTest followingIn followsIn
-    path-true a b c d e = fields-said ∙ go (ℕ-discrete (f .kind) pathKind) (ℕ-discrete (f .kind) loopsKind) (ℕ-discrete (f .kind) bogonKind)
+        → (f .kind ≡ timeKind → ⊥) → (f .kind ≡ communitiesKind → ⊥) → truthAt m program at ≡ ifAny segments (λ x. pathTest f (behind program at) (members x))
+    unfolding recordTruth recordIs isTrue onPath messageAt pathTest followingIn lastItem followsIn
+    path-true a b c d e g = fields-said ∙ go (ℕ-discrete (f .kind) pathKind) (ℕ-discrete (f .kind) loopsKind) (ℕ-discrete (f .kind) bogonKind)
       where
         none-tested : (x : Option (List Segment)) → (f .kind ≡ pathKind → ⊥) → (f .kind ≡ loopsKind → ⊥) → (f .kind ≡ bogonKind → ⊥)
             → ifAny x (λ y. pathTest f (behind program at) (members y)) ≡ false
@@ -170,7 +192,7 @@ module _ (s : List ℕ) (p : Parts) (program : List ℕ) (at : ℕ) {f : Fields}
         go (yes k) y z =
             rw k
             (path-said m (behind program at) f
-            ∙ rw (eq-eqb _ _ u) (both-any (leb (f .variant) 3) (itemsStand (f .count) (behind program at)) segments (λ x. matches (patternOf f (itemsIn (f .count) (behind program at))) (members x))))
+            ∙ rw (eq-eqb _ _ u) (both-any (leb (f .variant) 3) (itemsStand lastVariant (f .count) (behind program at)) segments (λ x. matches (patternOf f (itemsIn (f .count) (behind program at))) (members x))))
         go (no x) (yes k) z = rw (k, eq-eqb _ _ u) refl
         go (no x) (no y) (yes k) = rw (k, eq-eqb _ _ u) refl
-        go (no x) (no y) (no z) = none-said m (behind program at) f a b x c y z d e ∙ sym (none-tested segments x y z)
+        go (no x) (no y) (no z) = none-said m (behind program at) f a b x c y z d e g ∙ sym (none-tested segments x y z)

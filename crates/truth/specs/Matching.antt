@@ -1,11 +1,11 @@
 -- What the functions below `holds` compute, from the fields of a record and the bytes behind it.
 use Prim.Native.Nat.{ℕ, _+_, _*_}
 use mathlib.Core.Bool.{Bool, true, false}
-use mathlib.Core.Option.{Option, none, some}
+use mathlib.Core.Option.{Option}
 use mathlib.Core.List.{List, [], _∷_}
 use lib.ListN.{take}
 use lib.Dec.{eqb, leb}
-use Rattle.octets.specs.Choice.{pick, both}
+use Rattle.octets.specs.Choice.{pick, both, otherwise}
 use Rattle.aspath.specs.declared.Item.{Item}
 use Rattle.aspath.specs.declared.Cursor.{Cursor}
 use Rattle.aspath.specs.declared.Next.{Next}
@@ -15,14 +15,15 @@ use Rattle.aspath.specs.Cursors.{nextAt}
 use Rattle.aspath.specs.Loops.{hasLoop}
 use Rattle.aspath.specs.Bogons.{someBogon}
 use Rattle.aspath.specs.Patterns.{Pattern, fits, matches}
+use Rattle.communities.specs.Communities.{holdsAll}
 use Rattle.message.specs.Message.{Message}
 use Rattle.program.specs.declared.Fields.{Fields}
-use Rattle.program.specs.Records.{second}
+use Rattle.program.specs.Records.{Record, second}
 use Rattle.program.specs.Kinds.{pathKind, loopsKind, bogonKind}
 use Rattle.program.specs.Layout.{relationIs, sideIs, comparisonIs, peerIs, isStart, isEnd, operandOf, recordsIn}
 use Rattle.program.specs.Checks.{followingIn, followsIn}
 use Rattle.truth.specs.Means.{ifAny, samePeer, somePrefix, prefixesOn, compares}
-use Rattle.truth.specs.Records.{itemsOf}
+use Rattle.truth.specs.Records.{itemOf, numberOf, eachOf}
 
 -- ---- what the code computes
 
@@ -37,14 +38,16 @@ timeTest f seconds = ifAny (comparisonIs (f .variant)) (λ c. compares c (second
 abbrev pub networkTest : Fields → Message → Bool
 networkTest f m = ifAny (relationIs (f .variant)) (λ r. ifAny (sideIs (f .b)) (λ side. somePrefix r (operandOf f) (prefixesOn side m)))
 
--- items, none where there are none to be had
-abbrev pub given : Option (List Item) → List Item
-given none = []
-given (some items) = items
+-- what so many records at the front are as `one` reads them; none where it reads one of them as nothing
+unfoldable pub eachIn : {A : Type 0} → (Record → Option A) → ℕ → List ℕ → List A
+eachIn one count records = otherwise (eachOf one (take count (recordsIn records))) []
 
--- the items that so many records at the front are
-unfoldable pub itemsIn : ℕ → List ℕ → List Item
-itemsIn count records = given (itemsOf (take count (recordsIn records)))
+-- as items, and as numbers
+abbrev pub itemsIn : ℕ → List ℕ → List Item
+itemsIn = eachIn itemOf
+
+abbrev pub numbersIn : ℕ → List ℕ → List ℕ
+numbersIn = eachIn numberOf
 
 -- what stands at a cursor decides: a member with the cursor after it, or nothing more
 abbrev onNext : Next → (Member → Cursor → Bool) → Bool → Bool
@@ -74,3 +77,7 @@ pathTest f behind path =
     pick (eqb (f .kind) pathKind) (pathMatches f behind path)
     (pick (eqb (f .kind) loopsKind) (hasLoop path)
     (pick (eqb (f .kind) bogonKind) (someBogon path) false))
+
+-- every community that a record asks for is held: numbers stand behind it, and these are
+abbrev pub communitiesTest : Fields → List ℕ → List ℕ → Bool
+communitiesTest f behind held = both (followsIn f behind) (holdsAll held (numbersIn (followingIn f) behind))

@@ -14,11 +14,12 @@ use Rattle.aspath.specs.Loops.{Loop}
 use Rattle.aspath.specs.Loops as loops
 use Rattle.aspath.specs.Bogons.{HasBogon, someBogon}
 use Rattle.aspath.specs.Patterns.{Pattern, Matches, matches}
-use Rattle.attributes.specs.Attribute.{Attribute, codeOf, firstOf, askPath}
+use Rattle.communities.specs.Communities.{HoldsAll, holdsAll}
+use Rattle.attributes.specs.Attribute.{Attribute, codeOf, firstOf, askPath, askCommunities}
 use Rattle.message.specs.Message.{Message, update}
 use Rattle.program.specs.Readings.{Peer, byAs, byAddress, byBoth, Side, eitherSide, announced, withdrawn}
 use Rattle.program.specs.Readings.{Comparison, equal, below, atMost, above, atLeast}
-use Rattle.program.specs.Readings.{Test, typeIs, hasAttribute, pathMatches, peerIs, hasLoop, hasBogon, networkIs, timeIs}
+use Rattle.program.specs.Readings.{Test, typeIs, hasAttribute, pathMatches, peerIs, hasLoop, hasBogon, networkIs, timeIs, hasCommunities}
 use Rattle.program.specs.Records.{second}
 
 -- the path of an UPDATE that has an AS_PATH
@@ -44,6 +45,13 @@ pub record HasPrefix (m : Message) (r : Relation) (operand : Network) (s : Side)
   pub is-update : m .type ≡ update
   pub relates : Some (λ (n : Network). Relates r operand n) (prefixesOn s m)
 
+-- an UPDATE with a COMMUNITY in which every community asked for stands somewhere (request 1)
+pub record HasCommunities (m : Message) (asked : List ℕ) : Type 0 where
+  pub is-update : m .type ≡ update
+  pub held : List ℕ
+  pub present : firstOf askCommunities (m .attributes) ≡ some held
+  pub all : HoldsAll held asked
+
 abbrev pub Compares : Comparison → ℕ → ℕ → Type 0
 Compares equal a b = a ≡ b
 Compares below a b = a < b
@@ -64,6 +72,7 @@ pub data Means (m : Message) : Test → Type 0 where
   network : {r : Relation} {n : Network} {s : Side} → HasPrefix m r n s → Means m (networkIs r n s)
   -- a record's own fraction is 0
   time : {c : Comparison} {seconds micros : ℕ} → Compares c (m .seconds * second) (seconds * second + micros) → Means m (timeIs c seconds micros)
+  communities : {asked : List ℕ} → HasCommunities m asked → Means m (hasCommunities asked)
 
 -- ---- what the code computes
 
@@ -104,3 +113,4 @@ isTrue m hasLoop = onPath m loops.hasLoop
 isTrue m hasBogon = onPath m someBogon
 isTrue m (networkIs r n s) = both (isUpdate m) (somePrefix r n (prefixesOn s m))
 isTrue m (timeIs c seconds micros) = compares c (m .seconds * second) (seconds * second + micros)
+isTrue m (hasCommunities asked) = both (isUpdate m) (ifAny (firstOf askCommunities (m .attributes)) (λ held. holdsAll held asked))

@@ -9,17 +9,20 @@ ghost use Rattle.aspath.specs.Members.{members};
 ghost use Rattle.aspath.specs.Wire.{widthBytes, membersOf};
 ghost use Rattle.aspath.specs.Patterns.{matchesSome};
 ghost use Rattle.aspath.specs.Cursors.{nextAt};
-ghost use Rattle.attributes.specs.Attribute.{firstOf, askPath};
+ghost use Rattle.communities.specs.Communities.{communitiesOf, holdsAll};
+ghost use Rattle.attributes.specs.Attribute.{firstOf, askPath, askCommunities};
 ghost use Rattle.attributes.specs.Wire.{rawsOf, codes};
 ghost use Rattle.attributes.specs.Codes.{elem};
 ghost use Rattle.attributes.specs.Bodies.{attributesOf};
 ghost use Rattle.message.specs.Decode.{networksOf, messageAt};
 ghost use Rattle.program.specs.Records.{second, item};
+ghost use Rattle.program.specs.Kinds.{pathKind, communitiesKind};
 ghost use Rattle.program.specs.Layout.{relationIs, isStart, isEnd, fieldsIn, decode};
-ghost use Rattle.program.specs.Checks.{isItem, itemsStand};
+ghost use Rattle.program.specs.Checks.{lastVariant, numberVariant, isItem, itemsStand};
 ghost use Rattle.truth.specs.Means.{ifAny, somePrefix};
 ghost use Rattle.truth.specs.Records.{truthAt};
-ghost use Rattle.truth.specs.Matching.{peerTest, timeTest, networkTest, itemsIn, endsAt, matchesAt, pathMatches, pathTest};
+ghost use Rattle.truth.specs.Matching.{peerTest, timeTest, networkTest, itemsIn, numbersIn, endsAt, matchesAt, pathMatches, pathTest};
+ghost use Rattle.truth.specs.Matching.{communitiesTest};
 use aspath::Cursor;
 use aspath::Item;
 use aspath::Next;
@@ -150,7 +153,7 @@ fn has_prefix(f: Fields, record: &[u8], parts: Parts) -> bool
 
 // The item at a place where one stands.
 fn item_at(records: &[u8], at: usize) -> Item
-    requires { ⌜ isItem (fieldsIn (drop at (now records))) ≡ true ⌝ }
+    requires { ⌜ isItem lastVariant (fieldsIn (drop at (now records))) ≡ true ⌝ }
     ensures { λ r. ⌜ decode (drop at (now (records .entry))) ≡ some (item r) ⌝ }
 {
     let f = program::fields_at(records, at);
@@ -183,7 +186,7 @@ fn matches_here(
     from: Cursor,
     width: Width,
 ) -> bool
-    requires { ⌜ itemsStand count (now records) ≡ true ⌝ }
+    requires { ⌜ itemsStand lastVariant count (now records) ≡ true ⌝ }
     ensures { λ r. ⌜ r ≡ matchesAt end (itemsIn count (now (records .entry))) (widthBytes width) (now (path .entry)) from ⌝ }
 {
     let mut c = from;
@@ -209,7 +212,7 @@ fn matches_here(
 
 // Whether they do from some cursor on.
 fn matches_some(records: &[u8], count: usize, end: bool, path: &[u8], width: Width) -> bool
-    requires { ⌜ itemsStand count (now records) ≡ true ⌝ }
+    requires { ⌜ itemsStand lastVariant count (now records) ≡ true ⌝ }
     ensures { λ r. ⌜ r ≡ matchesSome end (itemsIn count (now (records .entry))) (membersOf (widthBytes width) (now (path .entry))) ⌝ }
 {
     let mut c = Cursor { at: 0, left: 0 };
@@ -245,6 +248,7 @@ fn is_end(variant: u32) -> bool
 
 // Whether a path record's pattern matches a path; its items are the records behind it.
 fn matches(f: Fields, behind: &[u8], path: &[u8], width: Width) -> bool
+    requires { ⌜ f .kind ≡ pathKind ⌝ }
     ensures { λ r. ⌜ r ≡ pathMatches f (now (behind .entry)) (membersOf (widthBytes width) (now (path .entry))) ⌝ }
 {
     if program::LAST_ENDS < f.variant {
@@ -295,6 +299,41 @@ fn true_of_section(f: Fields, behind: &[u8], section: &[u8], width: Width) -> bo
     }
 }
 
+// Whether each of so many numbers at the front of records stands in a body: the search ends at the first that is missing.
+fn holds_each(records: &[u8], count: usize, body: &[u8]) -> bool
+    requires { ⌜ itemsStand numberVariant count (now records) ≡ true ⌝ }
+    ensures { λ r. ⌜ r ≡ holdsAll (communitiesOf (now (body .entry))) (numbersIn count (now (records .entry))) ⌝ }
+{
+    let mut at = 0;
+    let mut left = count;
+    while 0 < left {
+        let asked = program::fields_at(records, at);
+        if !communities::has(body, asked.a) {
+            return false;
+        }
+        at += program::RECORD_SIZE;
+        left -= 1;
+    }
+    true
+}
+
+// Whether the COMMUNITY of a section holds every community that a record asks for: without one it doesn't.
+fn has_communities(f: Fields, behind: &[u8], section: &[u8], width: Width) -> bool
+    requires { ⌜ f .kind ≡ communitiesKind ⌝ }
+    ensures { λ r. ⌜ r ≡ ifAny (firstOf askCommunities (attributesOf (widthBytes width) (now (section .entry))))
+        (communitiesTest f (now (behind .entry))) ⌝ }
+{
+    let found = attributes::find(section, attributes::COMMUNITY);
+    let Found::At { start, len } = found else {
+        return false;
+    };
+    if !program::follows(f, behind) {
+        return false;
+    }
+    let count = program::following(f) as usize;
+    holds_each(behind, count, octets::part(section, start, len))
+}
+
 // Whether the test record at a place of a program is true of a message whose parts stand in a record. All tests but those of
 // the type, the peer and the time are false unless it is an UPDATE.
 pub fn holds(program: &[u8], at: usize, record: &[u8], parts: Parts) -> bool
@@ -322,5 +361,8 @@ pub fn holds(program: &[u8], at: usize, record: &[u8], parts: Parts) -> bool
     }
     let behind = octets::rest(octets::rest(program, at), program::RECORD_SIZE);
     let width = parts.width;
+    if f.kind == program::COMMUNITIES {
+        return has_communities(f, behind, section, width);
+    }
     true_of_section(f, behind, section, width)
 }

@@ -1,5 +1,7 @@
 //! What the tests share: the archive's answers by number, stored files, and programs that are run.
 
+use std::collections::BTreeMap;
+use std::ffi::OsStr;
 use std::path::PathBuf;
 use std::process::{ChildStdin, Command, Output, Stdio};
 use std::thread;
@@ -32,6 +34,29 @@ pub fn path(name: &str) -> PathBuf {
 /// A file of the repository.
 pub fn stored(name: &str) -> Vec<u8> {
     std::fs::read(path(name)).unwrap_or_else(|why| panic!("{name}: {why}"))
+}
+
+/// The example filters, each with the dump that `examples/dumps.tsv` names for it.
+pub fn examples() -> Vec<(PathBuf, PathBuf)> {
+    let table = String::from_utf8(stored("examples/dumps.tsv")).unwrap();
+    let dumps: BTreeMap<&str, &str> = table
+        .lines()
+        .skip(1)
+        .map(|row| row.split_once('\t').expect(row))
+        .collect();
+    let files = path("examples").read_dir().unwrap();
+    files
+        .map(|entry| entry.unwrap().path())
+        .filter(|file| file.extension() == Some(OsStr::new("filter")))
+        .map(|file| {
+            let name = file.file_name().unwrap().to_str().unwrap();
+            let dump = dumps
+                .get(name)
+                .unwrap_or_else(|| panic!("examples/dumps.tsv has no {name}"));
+            let dump = path("examples").join(dump);
+            (file, dump)
+        })
+        .collect()
 }
 
 /// Runs a command whose standard input a function feeds, beside it.

@@ -1,12 +1,11 @@
 //! The C interface as C sees it: the header, the example program over it, built and run, and the Python one beside it that cuts files.
 
-use std::ffi::OsStr;
 use std::fs;
 use std::path::{Path, PathBuf};
 use std::process::{Command, Output};
 use std::sync::OnceLock;
 
-use cases::{path, stored};
+use cases::{examples, path, stored};
 
 const STRICT: [&str; 4] = ["-Wall", "-Wextra", "-Werror", "-pedantic"];
 const ARCHIVE: &str = "target/staticlib/libgrainlantern_c.a";
@@ -94,20 +93,14 @@ fn summary(records: &Path, tally: [usize; 4]) -> String {
 
 #[test]
 fn the_examples_give_their_lines() {
-    let updates = path("examples/updates.mrt");
-    let mut examples = 0;
-    for entry in fs::read_dir(path("examples")).unwrap() {
-        let filter = entry.unwrap().path();
-        if filter.extension() != Some(OsStr::new("filter")) {
-            continue;
-        }
-        let output = filtered(&filter, &updates);
+    let examples = examples();
+    for (filter, dump) in &examples {
+        let output = filtered(filter, dump);
         assert!(output.status.success(), "{output:?}");
         let wanted = fs::read(filter.with_extension("lines")).unwrap();
         assert!(output.stdout == wanted, "{}", filter.display());
-        examples += 1;
     }
-    assert_eq!(examples, 6);
+    assert_eq!(examples.len(), 7);
 }
 
 #[test]

@@ -2,11 +2,10 @@
 //! files that exist.
 
 use std::collections::BTreeSet;
-use std::ffi::OsStr;
 use std::fs;
 use std::process::Command;
 
-use cases::{path, stored};
+use cases::{examples, path, stored};
 
 const GRAINLANTERN: &str = "man/grainlantern.1";
 const MRTGREP: &str = "man/mrtgrep.1";
@@ -126,7 +125,7 @@ fn it_has_every_test_and_no_other() {
     let page = page(GRAINLANTERN);
     let filter = source("crates/filter/src/lib.rt");
     let mut words = byte_strings(&filter, |c| c == '-');
-    assert!(words.len() >= 13, "{words:?}");
+    assert!(words.len() >= 14, "{words:?}");
     let language = under(&page, ".SH FILTER LANGUAGE");
     for operator in ["-and", "-or"] {
         assert!(words.remove(operator), "{operator}");
@@ -140,15 +139,17 @@ fn it_has_every_test_and_no_other() {
 }
 
 #[test]
-fn it_has_every_name_of_a_type_and_an_attribute() {
+fn it_has_every_name_of_a_type_an_attribute_and_a_community() {
     let page = page(GRAINLANTERN);
-    let source = source("crates/names/src/lib.rt");
-    let names = byte_strings(&source, |c| c.is_ascii_uppercase());
-    assert!(names.len() >= 18, "{names:?}");
     let tests = under(&page, ".SS Tests");
     let words: BTreeSet<&str> = tests.split([' ', '\n', ',', ':']).collect();
-    for name in names {
-        assert!(words.contains(name), "{name}");
+    for (crate_name, least) in [("names", 18), ("communities", 3)] {
+        let source = source(&format!("crates/{crate_name}/src/lib.rt"));
+        let names = byte_strings(&source, |c| c.is_ascii_uppercase());
+        assert!(names.len() >= least, "{names:?}");
+        for name in names {
+            assert!(words.contains(name), "{name}");
+        }
     }
 }
 
@@ -192,20 +193,21 @@ fn named_files_exist(page: &str) {
 #[test]
 fn it_shows_every_example_as_it_is() {
     let page = page(GRAINLANTERN);
-    let examples = under(&page, ".SH EXAMPLES");
-    let mut filters = 0;
-    for entry in fs::read_dir(path("examples")).unwrap() {
-        let file = entry.unwrap().path();
-        if file.extension() != Some(OsStr::new("filter")) {
-            continue;
+    let shown = under(&page, ".SH EXAMPLES");
+    let examples = examples();
+    for (file, dump) in &examples {
+        for file in [file, dump] {
+            let name = file.file_name().unwrap().to_str().unwrap();
+            assert!(shown.contains(&format!("examples/{name}")), "{name}");
         }
-        let name = file.file_name().unwrap().to_str().unwrap();
-        assert!(examples.contains(&format!("examples/{name}")), "{name}");
-        let text = fs::read_to_string(&file).unwrap();
-        assert!(examples.contains(&format!("\n{text}.fi\n")), "{name}");
-        filters += 1;
+        let text = fs::read_to_string(file).unwrap();
+        assert!(
+            shown.contains(&format!("\n{text}.fi\n")),
+            "{}",
+            file.display()
+        );
     }
-    assert!(filters > 0);
+    assert!(!examples.is_empty());
 }
 
 /// The options of mrtgrep, as its table of names spells them.

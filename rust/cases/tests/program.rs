@@ -1,6 +1,5 @@
 //! The program `grainlantern`, run: what no proof speaks of, its input and output.
 
-use std::ffi::OsStr;
 use std::fs::{self, File};
 use std::io::{Seek, Write};
 use std::path::{Path, PathBuf};
@@ -8,7 +7,7 @@ use std::process::{Command, Output, Stdio};
 use std::thread::{self, sleep};
 use std::time::Duration;
 
-use cases::{bytes, fed, path, stored, KEEP_ALL, R, R_LINE};
+use cases::{bytes, examples, fed, path, stored, KEEP_ALL, R, R_LINE};
 
 /// The bytes of the input that are read.
 const INPUT: usize = 65536;
@@ -231,23 +230,18 @@ fn real_dumps_give_their_lines() {
 
 #[test]
 fn the_examples_give_their_lines() {
-    let run = stored("examples/updates.mrt");
-    let all = filtered(&keep_all(), &run).lines().count();
-    let mut examples = 0;
-    for entry in fs::read_dir(path("examples")).unwrap() {
-        let file = entry.unwrap().path();
-        if file.extension() != Some(OsStr::new("filter")) {
-            continue;
-        }
-        let printed = filtered(&file, &run);
+    let examples = examples();
+    for (file, dump) in &examples {
+        let run = fs::read(dump).unwrap();
+        let printed = filtered(file, &run);
         let wanted = fs::read_to_string(file.with_extension("lines")).unwrap();
         assert_eq!(printed, wanted, "{}", file.display());
+        let all = filtered(&keep_all(), &run).lines().count();
         assert!(
             (1..all).contains(&printed.lines().count()),
             "{}",
             file.display()
         );
-        examples += 1;
     }
-    assert_eq!(examples, 6);
+    assert_eq!(examples.len(), 7);
 }

@@ -1,4 +1,4 @@
-//! The dumps of real collectors give their lines.
+//! The dumps of real collectors give their lines, and an example's dump is a part of one.
 
 use cases::{judge, program, step, stored, KEEP_ALL, LINE_ROOM};
 
@@ -36,4 +36,10 @@ fn frr_gives_its_lines() {
 #[test]
 fn gobgp_gives_its_lines() {
     holds("gobgp");
+}
+
+#[test]
+fn the_dump_with_tags_is_cut_from_frr() {
+    let frr = stored("tests/real/frr.mrt");
+    assert!(stored("examples/tags.mrt") == frr[32_500..35_182]);
 }

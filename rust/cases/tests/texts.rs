@@ -48,7 +48,7 @@ fn refused(text: &str, number: u32, place: usize) {
 #[test]
 fn every_text_gives_its_number_and_program() {
     let table = rows("texts.tsv");
-    assert_eq!(table.len(), 500);
+    assert_eq!(table.len(), 794);
     for (row, columns) in table.iter().enumerate() {
         let text = bytes(&columns[0]);
         let room: usize = columns[1].parse().unwrap();
@@ -103,11 +103,15 @@ fn sizes_up_to_4096() {
 
 #[test]
 fn weights_up_to_512() {
-    // a path and its items
+    // a path and its items, and communities
     let path = |items: usize| format!("-aspath '{}'", vec!["."; items].join(" "));
     let program = compiles(&path(511), 512);
     assert_eq!(&program[..4], &[3, 0, 1, 255]);
     refused(&path(512), 7, 0);
+    let communities = |count: usize| format!("-communities '{}'", vec!["0:0"; count].join(" "));
+    let program = compiles(&communities(511), 512);
+    assert_eq!(&program[..4], &[13, 0, 1, 255]);
+    refused(&communities(512), 7, 0);
     // joints, with the largest pass
     let joined = |items: usize| format!("-loops -and {}", path(items));
     let program = compiles(&joined(509), 512);

@@ -5,8 +5,8 @@ use std::net::IpAddr;
 
 use cases::{bytes, rows, tally, KEEP_ALL, LINE_ROOM};
 use grainlantern::{
-    Closing, Item, NotJudged, Peer, Program, ProgramRecord, Records, Relation, Side, Sign, Verdict,
-    WrongProgram, PROGRAM_ROOM,
+    Closing, Community, Item, NotJudged, Peer, Program, ProgramRecord, Records, Relation, Side,
+    Sign, Verdict, WrongProgram, PROGRAM_ROOM,
 };
 
 #[test]
@@ -100,6 +100,10 @@ fn fields(record: ProgramRecord) -> (u8, u8, u16, u32, u32) {
         ProgramRecord::Flip => (10, 0, 0, 0, 0),
         ProgramRecord::PassIfFalse { over } => (11, 0, over, 0, 0),
         ProgramRecord::PassIfTrue { over } => (12, 0, over, 0, 0),
+        ProgramRecord::Communities { communities } => (13, 0, communities, 0, 0),
+        ProgramRecord::Community(Community { high, low }) => {
+            (4, 0, 0, u32::from(high) * 65536 + u32::from(low), 0)
+        }
         other => panic!("{other:?} has no fields here"),
     }
 }
@@ -124,8 +128,31 @@ fn program_records_have_all_that_the_bytes_have() {
         assert_eq!(written, program.as_bytes(), "row {row}");
     }
     // the variants of each kind, none left out
-    let variants = [1, 1, 4, 3, 3, 1, 1, 4, 5, 1, 1, 1];
+    let variants = [1, 1, 4, 3, 3, 1, 1, 4, 5, 1, 1, 1, 1];
     assert_eq!(kinds.len(), variants.iter().sum(), "{kinds:?}");
+}
+
+#[test]
+fn items_are_communities_behind_their_record_only() {
+    let program = Program::compile("-communities '1:2 NO_EXPORT' -or -aspath '65538 !5'").unwrap();
+    let wanted = [
+        ProgramRecord::Communities { communities: 2 },
+        ProgramRecord::Community(Community { high: 1, low: 2 }),
+        ProgramRecord::Community(Community {
+            high: 65535,
+            low: 65281,
+        }),
+        ProgramRecord::PassIfTrue { over: 3 },
+        ProgramRecord::Path {
+            from_start: false,
+            to_end: false,
+            items: 2,
+        },
+        ProgramRecord::Item(Item::Number(65538)),
+        ProgramRecord::Item(Item::Not(5)),
+    ];
+    assert_eq!(program.records().len(), wanted.len());
+    assert!(program.records().eq(wanted));
 }
 
 #[test]

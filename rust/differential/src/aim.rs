@@ -8,7 +8,7 @@ const MICROSECONDS: [u32; 8] = [0, 0, 0, 1, 5, 50, 500_000, 999_999];
 
 impl Test {
     pub fn aimed(message: &Message, random: &mut Random) -> Test {
-        match random.below(13) {
+        match random.below(15) {
             0 => message_type(message, random),
             1 => attribute(message, random),
             2..=4 => pattern(message, random),
@@ -16,6 +16,7 @@ impl Test {
             7 => Test::Loops,
             8 => Test::Bogon,
             9 | 10 => network(message, random),
+            11 | 12 => Test::Communities(communities(message, random)),
             _ => time(message, random),
         }
     }
@@ -133,4 +134,35 @@ fn time(message: &Message, random: &mut Random) -> Test {
         seconds,
         microseconds: random.pick(&MICROSECONDS),
     }
+}
+
+/// Communities that the message holds, some that it doesn't, or only such, and sometimes one twice.
+pub fn communities(message: &Message, random: &mut Random) -> Vec<u32> {
+    let held = message.communities.as_deref().unwrap_or_default();
+    // how many of four aren't the message's
+    let others = random.pick(&[0, 0, 2, 4]);
+    let mut asked: Vec<u32> = (0..random.within(1, 4))
+        .map(|_| {
+            if held.is_empty() || random.below(4) < others {
+                return community_beside(held, random);
+            }
+            random.pick(held)
+        })
+        .collect();
+    if random.one_in(4) {
+        asked.push(random.pick(&asked));
+    }
+    asked
+}
+
+/// One that differs from a held one in a bit or has its halves exchanged, or any.
+fn community_beside(held: &[u32], random: &mut Random) -> u32 {
+    if held.is_empty() || random.one_in(2) {
+        return message::community(random);
+    }
+    let community = random.pick(held);
+    if random.one_in(3) {
+        return community.rotate_left(16);
+    }
+    community ^ (1 << random.below(32))
 }

@@ -3,7 +3,9 @@
 use std::collections::BTreeMap;
 use std::fmt;
 
+use crate::operand::{WRONG_COMMUNITIES, WRONG_LISTS};
 use crate::test::{ENDS, OPERATORS, RELATIONS, SIDES};
+use crate::{program, record};
 
 #[derive(Default)]
 pub struct Counts {
@@ -43,7 +45,7 @@ impl fmt::Display for Counts {
     }
 }
 
-/// Every answer, and every test with each truth that it can have.
+/// Every answer, some of them with each cause, and every test with each truth that it can have.
 fn wanted() -> Vec<String> {
     let mut wanted: Vec<String> = (0..=8).map(|number| format!("compile {number}")).collect();
     for number in [0, 1].into_iter().chain(11..=20) {
@@ -52,6 +54,7 @@ fn wanted() -> Vec<String> {
     }
     wanted.push("judge 21, counted".to_owned());
     wanted.extend(["record", "done", "cut"].map(|answer| format!("step {answer}")));
+    wanted.extend(causes());
 
     let anywhere = ["-type", "-peer AS", "-peer address", "-peer both"].map(str::to_owned);
     let times = OPERATORS.map(|operator| format!("-timestamp {operator}"));
@@ -82,5 +85,36 @@ fn wanted() -> Vec<String> {
     for test in ["-aspath ^ alone", "-aspath $ alone"] {
         wanted.extend(["true", "no AS_PATH"].map(|truth| format!("{test}: {truth}")));
     }
+    let lists = [
+        "-communities",
+        "-communities well-known",
+        "-communities repeated",
+    ];
+    for test in lists {
+        let reasons = [
+            "some missing",
+            "none held",
+            "empty COMMUNITY",
+            "no COMMUNITY",
+            "no UPDATE",
+        ];
+        wanted.push(format!("{test}: true"));
+        wanted.extend(reasons.map(|reason| format!("{test}: {reason}")));
+    }
     wanted
+}
+
+/// What can be wrong with a list of communities, in a text and in a program, and with an attribute's body.
+fn causes() -> Vec<String> {
+    let mut causes = Vec::new();
+    for (cause, _) in WRONG_LISTS.iter().chain(&WRONG_COMMUNITIES) {
+        causes.push(format!("compile 5, communities: {cause}"));
+    }
+    for (cause, _) in program::LIST_DAMAGES {
+        causes.push(format!("judge 20, communities: {cause}"));
+    }
+    for (cause, ..) in record::WRONG_BODIES {
+        causes.extend(record::SUBTYPES.map(|subtype| format!("judge 17, {cause}, {subtype}")));
+    }
+    causes
 }

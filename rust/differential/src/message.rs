@@ -10,6 +10,8 @@ pub const ORIGIN: u8 = 1;
 pub const AS_PATH: u8 = 2;
 pub const NEXT_HOP: u8 = 3;
 pub const ATOMIC_AGGREGATE: u8 = 6;
+pub const AGGREGATOR: u8 = 7;
+pub const COMMUNITY: u8 = 8;
 
 /// AS numbers: the first are no bogons, the others are, and both hold the ends of the ranges.
 const CLEAN: [u32; 12] = [
@@ -34,8 +36,25 @@ const ADDRESSES: [u32; 8] = [
 const LENGTHS: [u8; 16] = [0, 1, 7, 8, 9, 15, 16, 17, 22, 23, 24, 24, 25, 31, 32, 32];
 const SECONDS: [u32; 6] = [0, 1, 1_622_725_323, 0x7FFF_FFFF, 0x8000_0000, 0xFFFF_FFFF];
 
-/// Attribute codes that come up beside ORIGIN, AS_PATH and NEXT_HOP.
-const CODES: [u8; 14] = [0, 4, 5, 6, 6, 7, 8, 14, 15, 17, 18, 32, 64, 255];
+/// Communities: those with a name, their neighbours, 65535:666, and others, some with the halves exchanged.
+const COMMUNITIES: [u32; 13] = [
+    0xFFFF_FF01,
+    0xFFFF_FF02,
+    0xFFFF_FF03,
+    0xFFFF_FF00,
+    0xFFFF_FF04,
+    0xFFFF_029A,
+    0xFF01_FFFF,
+    0x0000_0000,
+    0x0000_0001,
+    0x0001_0000,
+    0x0D1C_0003,
+    0x0003_0D1C,
+    0xFFFF_FFFF,
+];
+
+/// Attribute codes that come up beside ORIGIN, AS_PATH, NEXT_HOP, AGGREGATOR and COMMUNITY.
+const CODES: [u8; 12] = [0, 4, 5, 6, 6, 14, 15, 17, 18, 32, 64, 255];
 
 /// A prefix as it stands on the wire: the bits past its length may be anything.
 #[derive(Clone, Copy)]
@@ -44,6 +63,7 @@ pub struct Prefix {
     pub len: u8,
 }
 
+#[derive(Clone)]
 pub struct Attribute {
     pub flags: u8,
     pub code: u8,
@@ -65,6 +85,8 @@ pub struct Message {
     pub announced: Vec<Prefix>,
     /// The numbers of all segments of the AS_PATH, if there is one.
     pub path: Option<Vec<u32>>,
+    /// What the COMMUNITY holds, if there is one.
+    pub communities: Option<Vec<u32>>,
     /// The body of a message that is no UPDATE.
     pub body: Vec<u8>,
 }
@@ -119,6 +141,25 @@ fn clean_number(random: &mut Random, wide: bool) -> u32 {
         return number;
     }
     CLEAN[0]
+}
+
+pub fn community(random: &mut Random) -> u32 {
+    if random.one_in(6) {
+        return random.word();
+    }
+    random.pick(&COMMUNITIES)
+}
+
+/// Out of a few, so that some come twice; rarely so many that the length takes two bytes, or that they fill most of a message.
+fn communities(random: &mut Random) -> Vec<u32> {
+    let known: Vec<u32> = (0..random.within(1, 4))
+        .map(|_| community(random))
+        .collect();
+    let count = match random.below(100) {
+        0 => random.pick(&[63, 64, 256, 900]),
+        _ => random.pick(&[0, 1, 1, 2, 3, 4, 6]),
+    };
+    (0..count).map(|_| random.pick(&known)).collect()
 }
 
 pub fn put_number(out: &mut Vec<u8>, number: u32, wide: bool) {
@@ -193,6 +234,7 @@ impl Message {
             attributes: Vec::new(),
             announced: prefixes(random),
             path: None,
+            communities: None,
             body: random.bytes(left),
         };
         message.add_attributes(random);
@@ -217,6 +259,23 @@ impl Message {
             let body = address(random).to_be_bytes().to_vec();
             self.add(random, NEXT_HOP, body);
         }
+        if random.one_in(4) {
+            let mut body = Vec::new();
+            put_number(&mut body, as_number(random, self.wide), self.wide);
+            body.extend(address(random).to_be_bytes());
+            self.add(random, AGGREGATOR, body);
+        }
+        if !random.one_in(4) {
+            let communities = communities(random);
+            let body = communities.iter().flat_map(|c| c.to_be_bytes()).collect();
+            self.add(random, COMMUNITY, body);
+            self.communities = Some(communities);
+        }
+        self.add_others(random);
+    }
+
+    /// Attributes whose bodies are free, and ATOMIC_AGGREGATE.
+    fn add_others(&mut self, random: &mut Random) {
         let mut codes: Vec<u8> = (0..random.below(4)).map(|_| random.pick(&CODES)).collect();
         codes.sort_unstable();
         codes.dedup();

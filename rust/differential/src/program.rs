@@ -1,5 +1,6 @@
 //! Programs: valid ones, most of which no text gives, and damaged ones.
 
+use crate::aim;
 use crate::message::Message;
 use crate::random::Random;
 use crate::test::{program_record, Record, Test};
@@ -64,7 +65,7 @@ const A: (usize, usize) = (4, 4);
 const B: (usize, usize) = (8, 4);
 
 /// For the records of a kind, the last values that a field may hold, and the first ones that it may not.
-const BORDERS: [(u8, (usize, usize), u32); 34] = [
+const BORDERS: [(u8, (usize, usize), u32); 40] = [
     (1, A, 255),
     (1, A, 256),
     (2, A, 255),
@@ -99,6 +100,12 @@ const BORDERS: [(u8, (usize, usize), u32); 34] = [
     (12, COUNT, 0),
     (12, COUNT, 1),
     (12, COUNT, 511),
+    (13, VARIANT, 1),
+    (13, COUNT, 0),
+    (13, COUNT, 1),
+    (13, COUNT, 511),
+    (13, A, 1),
+    (13, B, 1),
 ];
 
 fn set(record: &mut [u8], (place, size): (usize, usize), value: u32) {
@@ -116,11 +123,72 @@ fn spoil_field(record: &mut [u8], random: &mut Random) {
         return;
     }
     match random.below(4) {
-        0 => record[0] = random.below(14) as u8,
+        0 => record[0] = random.below(15) as u8,
         1 => set(record, random.pick(&[VARIANT, COUNT, A, B]), 1),
         2 => record[random.within(12, 15)] = random.byte(),
         _ => record[random.below(16)] ^= 1 << random.below(8),
     }
+}
+
+/// Changes the records of a list of communities: the test's, and its items'.
+type Damage = fn(&mut Vec<Record>, &mut Random);
+
+/// Damage after which no program with the list is valid, by what is wrong then.
+pub const LIST_DAMAGES: [(&str, Damage); 11] = [
+    ("count 0, no items", |list, _| {
+        set(&mut list[0], COUNT, 0);
+        list.truncate(1);
+    }),
+    ("count 0 before items", |list, _| {
+        set(&mut list[0], COUNT, 0)
+    }),
+    ("count of more than 511", |list, random| {
+        set(&mut list[0], COUNT, random.pick(&[512, 513, 0xFFFF]));
+    }),
+    ("fewer items than counted", |list, _| {
+        list.pop();
+    }),
+    ("more items than counted", |list, _| list.push(list[1])),
+    ("variant not 0", |list, random| {
+        set(&mut list[0], VARIANT, random.pick(&[1, 2, 3, 255]));
+    }),
+    ("A not 0", |list, random| {
+        set(&mut list[0], A, 1 << random.below(32))
+    }),
+    ("B not 0", |list, random| {
+        set(&mut list[0], B, 1 << random.below(32))
+    }),
+    ("item of variant 1", |list, random| {
+        set(any_item(list, random), VARIANT, 1);
+    }),
+    ("item of variant 2", |list, random| {
+        // with A zero it could stand in a path
+        *any_item(list, random) = program_record(4, 2, 0, 0, 0);
+    }),
+    ("pass onto an item", |list, random| {
+        let count = random.within(1, list.len() - 1) as u16;
+        let pass = program_record(random.pick(&[11, 12]), 0, count, 0, 0);
+        list.splice(0..0, [program_record(6, 0, 0, 0, 0), pass]);
+    }),
+];
+
+fn any_item<'a>(list: &'a mut [Record], random: &mut Random) -> &'a mut Record {
+    let place = random.within(1, list.len() - 1);
+    &mut list[place]
+}
+
+/// A program that isn't valid for its list of communities, and what is wrong there.
+pub fn wrong_communities(message: &Message, random: &mut Random) -> (&'static str, Vec<u8>) {
+    let mut list = Test::Communities(aim::communities(message, random)).records();
+    let (cause, damage) = random.pick(&LIST_DAMAGES);
+    damage(&mut list, random);
+    if random.one_in(2) {
+        list.insert(0, program_record(7, 0, 0, 0, 0));
+    }
+    if random.one_in(2) {
+        list.push(program_record(10, 0, 0, 0, 0));
+    }
+    (cause, list.concat())
 }
 
 /// A program with a little damage, after which it may still be valid.

@@ -1,8 +1,8 @@
 //! Messages as records: whole ones, and ones with a slip for a refusal's number.
 
 use crate::message::{
-    put_number, Attribute, Message, Prefix, AS_PATH, ATOMIC_AGGREGATE, MESSAGE_LIMIT, NEXT_HOP,
-    ORIGIN, UPDATE,
+    put_number, Attribute, Message, Prefix, AGGREGATOR, AS_PATH, ATOMIC_AGGREGATE, COMMUNITY,
+    MESSAGE_LIMIT, NEXT_HOP, ORIGIN, UPDATE,
 };
 use crate::random::Random;
 
@@ -60,25 +60,67 @@ fn segment(kind: u8, count: u8, bytes: usize) -> Vec<u8> {
     body
 }
 
-/// An attribute with a body that it must not have.
-fn broken_attribute(random: &mut Random, wide: bool) -> Attribute {
-    let width = if wide { 4 } else { 2 };
-    let (code, body) = match random.below(12) {
-        0 => (ORIGIN, vec![]),
-        1 => (ORIGIN, vec![random.pick(&[3, 4, 255])]),
-        2 => (ORIGIN, vec![0, 0]),
-        3 => (AS_PATH, vec![2]),
-        4 => (AS_PATH, segment(2, 0, 0)),
-        5 => (AS_PATH, segment(random.pick(&[0, 3, 4, 255]), 1, width)),
-        6 => (AS_PATH, segment(2, 3, 2 * width)),
-        7 => (AS_PATH, segment(1, 1, width + 1)),
-        8 => (AS_PATH, segment(2, 2, 2 * width - 1)),
-        9 => (NEXT_HOP, vec![0; random.pick(&[0, 3, 5, 8])]),
-        10 => (ATOMIC_AGGREGATE, vec![0]),
-        _ => (ATOMIC_AGGREGATE, vec![0; 4]),
-    };
+/// Whether AS numbers have 2 bytes or 4, by `wide`.
+pub const SUBTYPES: [&str; 2] = ["subtype 1", "subtype 4"];
+
+/// Makes a body, given the bytes of an AS number.
+type Body = fn(usize, &mut Random) -> Vec<u8>;
+
+/// Bodies that attributes must not have: what is wrong, the attribute's code, and how one is made.
+pub const WRONG_BODIES: [(&str, u8, Body); 14] = [
+    ("ORIGIN of no byte", ORIGIN, |_, _| vec![]),
+    ("ORIGIN over 2", ORIGIN, |_, random| {
+        vec![random.pick(&[3, 4, 255])]
+    }),
+    ("ORIGIN of two bytes", ORIGIN, |_, _| vec![0, 0]),
+    ("segment without a count", AS_PATH, |_, _| vec![2]),
+    ("segment of no number", AS_PATH, |_, _| segment(2, 0, 0)),
+    ("segment of another type", AS_PATH, |width, random| {
+        segment(random.pick(&[0, 3, 4, 255]), 1, width)
+    }),
+    ("segment without its last number", AS_PATH, |width, _| {
+        segment(2, 3, 2 * width)
+    }),
+    ("segment without its last byte", AS_PATH, |width, _| {
+        segment(2, 2, 2 * width - 1)
+    }),
+    ("byte behind a segment", AS_PATH, |width, _| {
+        segment(1, 1, width + 1)
+    }),
+    ("NEXT_HOP not of 4 bytes", NEXT_HOP, |_, random| {
+        vec![0; random.pick(&[0, 3, 5, 8])]
+    }),
+    (
+        "ATOMIC_AGGREGATE of some bytes",
+        ATOMIC_AGGREGATE,
+        |_, random| vec![0; random.pick(&[1, 4])],
+    ),
+    ("AGGREGATOR of the other width", AGGREGATOR, |width, _| {
+        vec![0; if width == 2 { 8 } else { 6 }]
+    }),
+    ("AGGREGATOR of another size", AGGREGATOR, |_, random| {
+        vec![0; random.pick(&[0, 1, 4, 5, 7, 9, 12])]
+    }),
+    ("COMMUNITY not a multiple of 4", COMMUNITY, |_, random| {
+        vec![0; 4 * random.pick(&[0, 1, 2, 63, 64]) + random.within(1, 3)]
+    }),
+];
+
+/// Lays a wrong body over an attribute, or beside them all, and says what is wrong.
+pub fn spoil_body(
+    attributes: &mut Vec<Attribute>,
+    wide: bool,
+    random: &mut Random,
+) -> &'static str {
+    let (cause, code, make) = random.pick(&WRONG_BODIES);
+    let body = make(if wide { 4 } else { 2 }, random);
     let flags = 0x40;
-    Attribute { flags, code, body }
+    let wrong = Attribute { flags, code, body };
+    match attributes.iter_mut().find(|other| other.code == code) {
+        Some(attribute) => *attribute = wrong,
+        None => attributes.push(wrong),
+    }
+    cause
 }
 
 impl Message {
@@ -186,14 +228,11 @@ impl Message {
     }
 
     fn attribute_section(&self, slips: &[u32], random: &mut Random) -> Vec<u8> {
-        let mut all: Vec<&Attribute> = self.attributes.iter().collect();
-        let broken = broken_attribute(random, self.wide);
+        let mut attributes = self.attributes.clone();
         if slips.contains(&17) {
-            match all.iter().position(|other| other.code == broken.code) {
-                Some(place) => all[place] = &broken,
-                None => all.push(&broken),
-            }
+            spoil_body(&mut attributes, self.wide, random);
         }
+        let mut all: Vec<&Attribute> = attributes.iter().collect();
         let is_wrong = slips.contains(&16);
         let is_twice = is_wrong && random.one_in(2) && !all.is_empty();
         if is_twice {

@@ -1,7 +1,7 @@
 //! Tests as tokens, in any of the ways that they can be written.
 
 use crate::random::Random;
-use crate::test::{Item, Test, OPERATORS, RELATIONS, SIDES};
+use crate::test::{Item, Test, OPERATORS, RELATIONS, SIDES, WELL_KNOWN};
 use crate::token::{blanks, Token};
 
 /// Names of type and attribute codes.
@@ -37,6 +37,7 @@ impl Test {
             Test::Type(code) => ("-type", code_text(*code, &TYPES, random)),
             Test::Attribute(code) => ("-attr", code_text(*code, &ATTRIBUTES, random)),
             Test::Path { ends, items } => ("-aspath", pattern_text(*ends, items, random)),
+            Test::Communities(asked) => ("-communities", communities_text(asked, random)),
             Test::Peer { number, address } => ("-peer", peer_text(*number, *address, random)),
             Test::Network {
                 relation,
@@ -105,6 +106,25 @@ fn fraction_text(microseconds: u32, random: &mut Random) -> String {
         digits.pop();
     }
     digits
+}
+
+/// A name where there is one, or the halves.
+fn community_text(community: u32, random: &mut Random) -> String {
+    match WELL_KNOWN.iter().find(|(_, known)| *known == community) {
+        Some((name, _)) if !random.one_in(3) => (*name).to_owned(),
+        _ => format!("{}:{}", community >> 16, community & 0xFFFF),
+    }
+}
+
+fn communities_text(asked: &[u32], random: &mut Random) -> String {
+    let mut text = String::new();
+    for (place, community) in asked.iter().enumerate() {
+        if place > 0 {
+            text.push_str(blanks(random, true));
+        }
+        text.push_str(&community_text(*community, random));
+    }
+    text
 }
 
 fn item_text(item: &Item) -> String {

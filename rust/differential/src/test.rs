@@ -8,6 +8,13 @@ pub const SIDES: [&str; 3] = ["", "+", "-"];
 pub const OPERATORS: [&str; 5] = ["=", "<", "<=", ">", ">="];
 pub const ENDS: [&str; 4] = ["plain", "^", "$", "^$"];
 
+/// Communities that have a name.
+pub const WELL_KNOWN: [(&str, u32); 3] = [
+    ("NO_EXPORT", 0xFFFF_FF01),
+    ("NO_ADVERTISE", 0xFFFF_FF02),
+    ("NO_EXPORT_SUBCONFED", 0xFFFF_FF03),
+];
+
 #[derive(Clone, Copy)]
 pub enum Item {
     Number(u32),
@@ -39,6 +46,7 @@ pub enum Test {
         seconds: u32,
         microseconds: u32,
     },
+    Communities(Vec<u32>),
 }
 
 /// One record of a program.
@@ -81,6 +89,7 @@ impl Test {
             Test::Loops => "-loops".to_owned(),
             Test::Bogon => "-bogon-asn".to_owned(),
             Test::Path { ends, items } => return path_labels(*ends, items),
+            Test::Communities(asked) => return community_labels(asked),
             Test::Peer { number, address } => match (number, address) {
                 (Some(_), Some(_)) => "-peer both".to_owned(),
                 (Some(_), None) => "-peer AS".to_owned(),
@@ -102,7 +111,7 @@ impl Test {
         vec![label]
     }
 
-    /// Why the test can't be true of the message, where that is so whatever its operand.
+    /// Why the test can't be true of the message, where what the message is made of shows it.
     pub fn barred(&self, message: &Message) -> Option<&'static str> {
         match self {
             Test::Type(_) | Test::Peer { .. } | Test::Time { .. } => None,
@@ -111,6 +120,10 @@ impl Test {
             Test::Path { .. } | Test::Loops | Test::Bogon => match message.path {
                 Some(_) => None,
                 None => Some("no AS_PATH"),
+            },
+            Test::Communities(asked) => match &message.communities {
+                Some(held) => lacking(asked, held),
+                None => Some("no COMMUNITY"),
             },
         }
     }
@@ -125,6 +138,11 @@ impl Test {
             Test::Path { ends, items } => {
                 let mut records = vec![program_record(3, *ends, items.len() as u16, 0, 0)];
                 records.extend(items.iter().map(Item::record));
+                return records;
+            }
+            Test::Communities(asked) => {
+                let mut records = vec![program_record(13, 0, asked.len() as u16, 0, 0)];
+                records.extend(asked.iter().map(|c| program_record(4, 0, 0, *c, 0)));
                 return records;
             }
             Test::Peer { number, address } => {
@@ -149,6 +167,32 @@ impl Test {
         };
         vec![record]
     }
+}
+
+/// Why not all that are asked for are held, if that is so.
+fn lacking(asked: &[u32], held: &[u32]) -> Option<&'static str> {
+    if held.is_empty() {
+        return Some("empty COMMUNITY");
+    }
+    let found = asked.iter().filter(|c| held.contains(c)).count();
+    if found == 0 {
+        return Some("none held");
+    }
+    (found < asked.len()).then_some("some missing")
+}
+
+/// By what the list has beside communities that come once and without a name.
+fn community_labels(asked: &[u32]) -> Vec<String> {
+    let mut labels = vec!["-communities".to_owned()];
+    let is_known = |c: &u32| WELL_KNOWN.iter().any(|(_, known)| known == c);
+    if asked.iter().any(is_known) {
+        labels.push("-communities well-known".to_owned());
+    }
+    let is_again = |place: usize| asked[..place].contains(&asked[place]);
+    if (0..asked.len()).any(is_again) {
+        labels.push("-communities repeated".to_owned());
+    }
+    labels
 }
 
 /// By the ends, and by each kind of item that the pattern has.

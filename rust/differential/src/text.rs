@@ -1,7 +1,7 @@
 //! Texts of the filter language: good ones, and ones with a slip for a refusal's number.
 
 use crate::message::Message;
-use crate::operand::{any_operand, near_operands, one_of, OPERANDS};
+use crate::operand::{self, any_operand, near_operands, one_of, OPERANDS};
 use crate::random::Random;
 use crate::test::Test;
 use crate::token::{joined, Token};
@@ -111,18 +111,25 @@ fn deep(tokens: Vec<Token>, random: &mut Random) -> Vec<Token> {
     out
 }
 
-/// The tokens beside a pattern, or a row of tests, of about as much weight as a text may have.
+/// A test with an item so many times.
+fn listed(test: &str, item: &str, count: usize) -> [Token; 2] {
+    let items = vec![item; count].join(" ");
+    [Token::word(test), Token::Quoted(items.into_bytes())]
+}
+
+/// The tokens beside a pattern, a list of communities or a row of tests, of about as much weight as a text may have.
 fn heavy(tokens: Vec<Token>, random: &mut Random) -> Vec<Token> {
     let records = WEIGHT_LIMIT - random.pick(&[0, 0, 1, 2, 3, 4, 8, 12]);
     let mut out = Vec::new();
-    if random.one_in(2) {
-        let items = vec!["."; records - 1].join(" ");
-        out.extend([Token::word("-aspath"), Token::Quoted(items.into_bytes())]);
-    } else {
-        for _ in 1..records / 2 {
-            out.extend([Token::word("-loops"), Token::word("-or")]);
+    match random.below(3) {
+        0 => out.extend(listed("-aspath", ".", records - 1)),
+        1 => out.extend(listed("-communities", "1:2", records - 1)),
+        _ => {
+            for _ in 1..records / 2 {
+                out.extend([Token::word("-loops"), Token::word("-or")]);
+            }
+            out.push(Token::word("-loops"));
         }
-        out.push(Token::word("-loops"));
     }
     if random.one_in(2) {
         out.push(Token::word(random.pick(&["-and", "-or"])));
@@ -158,7 +165,7 @@ fn spoil_operand(tokens: &mut [Token], random: &mut Random) {
 
 /// One byte put in, taken out or exchanged: mostly one that means something.
 fn edit(bytes: &mut Vec<u8>, random: &mut Random) {
-    const BYTES: &[u8] = b"()!' \t\n-+^$./<>=0123456789aeorLOPSU_";
+    const BYTES: &[u8] = b"()!' \t\n-+^$./:<>=0123456789aeorLNOPSUX_";
     let byte = match random.below(4) {
         0 => random.within(0x20, 0x7E) as u8,
         _ => random.pick(BYTES),
@@ -207,6 +214,16 @@ pub fn bordering(random: &mut Random) -> Vec<u8> {
         Token::operand(operand, random),
     ];
     joined(&tokens, random)
+}
+
+/// A list of communities that isn't taken, and what is wrong with it.
+pub fn wrong_communities(random: &mut Random) -> (&'static str, Vec<u8>) {
+    let (cause, operand) = operand::wrong_communities(random);
+    let tokens = [
+        Token::word("-communities"),
+        Token::operand(operand.into_bytes(), random),
+    ];
+    (cause, joined(&tokens, random))
 }
 
 /// Any token after any token.

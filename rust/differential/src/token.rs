@@ -4,7 +4,7 @@ use crate::operand::{any_operand, one_of};
 use crate::random::Random;
 
 /// Words that stand wrong somewhere, or everywhere, with `|` between them.
-const WORDS: &str = "-and|-or|-loops|-bogon-asn|-type|-attr|-aspath|-peer|-exact|-timestamp|-not|-a|-o|-AND|-loop|-loopss|x|5";
+const WORDS: &str = "-and|-or|-loops|-bogon-asn|-type|-attr|-aspath|-peer|-exact|-timestamp|-communities|-not|-a|-o|-AND|-loop|-loopss|x|5";
 
 #[derive(Clone)]
 pub enum Token {

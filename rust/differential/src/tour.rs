@@ -41,12 +41,13 @@ pub fn run(seed: u64, mut more: impl FnMut(u64) -> bool) -> Outcome<Counts> {
 impl Tour {
     fn round(&mut self) -> Outcome<()> {
         let message = Message::random(&mut self.random);
-        match self.random.below(14) {
+        match self.random.below(15) {
             0..=7 => self.one_test(&message),
             8 => self.whole_filter(&message),
             9 | 10 => self.bad_text(&message),
             11 => self.odd_program(&message),
             12 => self.bad_record(&message),
+            13 => self.known_causes(message),
             _ => self.run_of_records(&message),
         }
     }
@@ -55,7 +56,7 @@ impl Tour {
     fn one_test(&mut self, message: &Message) -> Outcome<()> {
         let test = Test::aimed(message, &mut self.random);
         let text = text::of_test(&test, &mut self.random);
-        let Some(program) = self.compile(&text)? else {
+        let Ok(program) = self.compile(&text)? else {
             return Ok(());
         };
         let record = message.record(&[], &mut self.random);
@@ -80,7 +81,7 @@ impl Tour {
     /// A filter of several tests, on the message that it is aimed at and on others.
     fn whole_filter(&mut self, message: &Message) -> Outcome<()> {
         let text = text::good(message, &mut self.random);
-        let Some(program) = self.compile(&text)? else {
+        let Ok(program) = self.compile(&text)? else {
             return Ok(());
         };
         let record = message.record(&[], &mut self.random);
@@ -103,7 +104,7 @@ impl Tour {
                 text::slipped(message, &slips, &mut self.random)
             }
         };
-        let Some(program) = self.compile(&text)? else {
+        let Ok(program) = self.compile(&text)? else {
             return Ok(());
         };
         let record = message.record(&[], &mut self.random);
@@ -133,6 +134,35 @@ impl Tour {
         let mut edited = message.record(&[], &mut self.random);
         record::edit(&mut edited, &mut self.random);
         self.judge(&program, &edited)?;
+        Ok(())
+    }
+
+    /// A text, a program and a record, each refused for a cause that is known and counted.
+    fn known_causes(&mut self, mut message: Message) -> Outcome<()> {
+        let (cause, text) = text::wrong_communities(&mut self.random);
+        let number = self
+            .compile(&text)?
+            .map_or_else(|refusal| refusal.number, |_| 0);
+        assert_eq!(number, 5, "{cause}: {}", String::from_utf8_lossy(&text));
+        self.counts.add(format!("compile 5, communities: {cause}"));
+
+        let record = message.record(&[], &mut self.random);
+        let (cause, program) = program::wrong_communities(&message, &mut self.random);
+        assert_eq!(
+            self.judge(&program, &record)?,
+            Judged::Refused(20),
+            "{cause}"
+        );
+        self.counts.add(format!("judge 20, communities: {cause}"));
+
+        let program = program::valid(&message, &mut self.random);
+        let cause = record::spoil_body(&mut message.attributes, message.wide, &mut self.random);
+        let record = message.record(&[], &mut self.random);
+        // the message may be no UPDATE or too long, and the tally full
+        if self.judge(&program, &record)? == Judged::Refused(17) {
+            let subtype = record::SUBTYPES[usize::from(message.wide)];
+            self.counts.add(format!("judge 17, {cause}, {subtype}"));
+        }
         Ok(())
     }
 
@@ -177,8 +207,8 @@ impl Tour {
             .collect()
     }
 
-    /// The program of a text, if it has one, which is also compiled for a room about as large as it needs.
-    fn compile(&mut self, text: &[u8]) -> Outcome<Option<Vec<u8>>> {
+    /// The program of a text, or its refusal; it is also compiled for a room about as large as it needs.
+    fn compile(&mut self, text: &[u8]) -> Outcome<Result<Vec<u8>, Refusal>> {
         let compiled = self.both.compile(text, PROGRAM_ROOM)?;
         let size = match &compiled {
             Ok(program) => program.len(),
@@ -194,7 +224,7 @@ impl Tour {
         };
         let again = self.both.compile(text, room)?;
         self.count_compiled(&again);
-        Ok(compiled.ok())
+        Ok(compiled)
     }
 
     /// Judges for a room about as large as the lines need, counted or not.

@@ -57,7 +57,7 @@ mod wrong_program;
 
 pub use not_judged::NotJudged;
 pub use program::Program;
-pub use program_record::{Item, Peer, ProgramRecord, Relation, Side, Sign};
+pub use program_record::{Community, Item, Peer, ProgramRecord, Relation, Side, Sign};
 pub use records::{Closing, Records};
 pub use refusal::{Reason, Refusal};
 pub use tally::Tally;

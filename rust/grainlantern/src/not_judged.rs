@@ -31,7 +31,7 @@ pub enum NotJudged {
     WrongSections = 15,
     /// 16: an attribute overruns, or a code comes twice.
     WrongAttributes = 16,
-    /// 17: the body of ORIGIN, AS_PATH, NEXT_HOP or ATOMIC_AGGREGATE is wrong.
+    /// 17: the body of ORIGIN, AS_PATH, NEXT_HOP, ATOMIC_AGGREGATE, AGGREGATOR or COMMUNITY is wrong.
     WrongBody = 17,
     /// 18: a prefix is wrong.
     WrongPrefix = 18,

@@ -86,7 +86,10 @@ impl Program {
     /// ```
     pub fn records(&self) -> impl ExactSizeIterator<Item = ProgramRecord> + '_ {
         let (records, _) = self.bytes.as_chunks();
-        records.iter().map(ProgramRecord::of)
+        let mut communities = 0;
+        records
+            .iter()
+            .map(move |record| ProgramRecord::of(record, &mut communities))
     }
 
     /// Judges a record, which is its header and its body, and writes the lines of one that is kept to the start of a buffer.

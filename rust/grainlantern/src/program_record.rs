@@ -1,3 +1,4 @@
+use std::fmt::{self, Display, Formatter};
 use std::net::{IpAddr, Ipv4Addr};
 
 /// A record of a program, as [`Program::records`](crate::Program::records) gives it.
@@ -43,7 +44,7 @@ pub enum ProgramRecord {
         /// How many items follow.
         items: u16,
     },
-    /// 4: an item of the path record before it; no step of its own.
+    /// 4 behind a path record: an item of its pattern; no step of its own.
     Item(Item),
     /// 5, `-peer`: the record comes from this peer.
     Peer(Peer),
@@ -75,14 +76,21 @@ pub enum ProgramRecord {
     Flip,
     /// 11, `-and`: where the flag is false, the next records are passed over.
     PassIfFalse {
-        /// How many, items too.
+        /// How many, items and communities too.
         over: u16,
     },
     /// 12, `-or`: where the flag is true, the next records are passed over.
     PassIfTrue {
-        /// How many, items too.
+        /// How many, items and communities too.
         over: u16,
     },
+    /// 13, `-communities`: the update's COMMUNITY attribute holds each of the communities that follow.
+    Communities {
+        /// How many communities follow.
+        communities: u16,
+    },
+    /// 4 behind a communities record: one that it asks for; no step of its own.
+    Community(Community),
 }
 
 /// An item of a path's pattern.
@@ -95,6 +103,47 @@ pub enum Item {
     Not(u32),
     /// Any AS number.
     Any,
+}
+
+/// A community of RFC 1997, written as the filter language and the lines have it.
+///
+/// ```
+/// use grainlantern::{Community, Program, ProgramRecord};
+///
+/// let program = Program::compile("-communities '64500:1 65535:65281'")?;
+/// let [first, second] = [Community { high: 64500, low: 1 }, Community { high: 65535, low: 65281 }];
+/// assert!(program.records().skip(1).eq([first, second].map(ProgramRecord::Community)));
+/// assert_eq!(format!("{first} {second}"), "64500:1 NO_EXPORT");
+/// # Ok::<(), grainlantern::Refusal>(())
+/// ```
+#[derive(Clone, Copy, Debug, PartialEq, Eq, Hash)]
+pub struct Community {
+    /// The first half, mostly the number of the AS that gives the other half its meaning.
+    pub high: u16,
+    /// The second half.
+    pub low: u16,
+}
+
+impl Community {
+    /// The name of the three that have one: NO_EXPORT, NO_ADVERTISE and NO_EXPORT_SUBCONFED.
+    pub fn name(&self) -> Option<&'static str> {
+        match (self.high, self.low) {
+            (65535, 65281) => Some("NO_EXPORT"),
+            (65535, 65282) => Some("NO_ADVERTISE"),
+            (65535, 65283) => Some("NO_EXPORT_SUBCONFED"),
+            _ => None,
+        }
+    }
+}
+
+/// Its name, or else its halves.
+impl Display for Community {
+    fn fmt(&self, f: &mut Formatter) -> fmt::Result {
+        match self.name() {
+            Some(name) => f.write_str(name),
+            None => write!(f, "{}:{}", self.high, self.low),
+        }
+    }
 }
 
 /// The peer that a test asks for.
@@ -151,8 +200,9 @@ impl ProgramRecord {
     /// The bytes of a record.
     pub const SIZE: usize = 16;
 
-    /// The record that these bytes of a valid program stand for.
-    pub(crate) fn of(bytes: &[u8; ProgramRecord::SIZE]) -> ProgramRecord {
+    /// The record that these bytes of a valid program stand for. `communities` is how many of the records from here on are communities: what an
+    /// item is lies in the record that it follows.
+    pub(crate) fn of(bytes: &[u8; ProgramRecord::SIZE], communities: &mut u16) -> ProgramRecord {
         let [kind, variant, c0, c1, a0, a1, a2, a3, b0, b1, b2, b3, ..] = *bytes;
         let count = u16::from_be_bytes([c0, c1]);
         let a = u32::from_be_bytes([a0, a1, a2, a3]);
@@ -166,6 +216,10 @@ impl ProgramRecord {
                 to_end: variant & 2 != 0,
                 items: count,
             },
+            4 if *communities > 0 => {
+                *communities -= 1;
+                ProgramRecord::Community(community(a))
+            }
             4 => ProgramRecord::Item(item(variant, a)),
             5 => ProgramRecord::Peer(peer(variant, address(a), b)),
             6 => ProgramRecord::Loops,
@@ -184,6 +238,10 @@ impl ProgramRecord {
             10 => ProgramRecord::Flip,
             11 => ProgramRecord::PassIfFalse { over: count },
             12 => ProgramRecord::PassIfTrue { over: count },
+            13 => {
+                *communities = count;
+                ProgramRecord::Communities { communities: count }
+            }
             _ => invalid(bytes),
         }
     }
@@ -195,6 +253,15 @@ fn item(variant: u8, number: u32) -> Item {
         1 => Item::Not(number),
         2 => Item::Any,
         _ => invalid(variant),
+    }
+}
+
+/// A community, whose halves fill A.
+fn community(a: u32) -> Community {
+    let [h0, h1, l0, l1] = a.to_be_bytes();
+    Community {
+        high: u16::from_be_bytes([h0, h1]),
+        low: u16::from_be_bytes([l0, l1]),
     }
 }
 

@@ -22,7 +22,7 @@ pub enum Verdict {
 #[non_exhaustive]
 #[derive(Clone, Copy, Debug, PartialEq, Eq, Hash)]
 pub struct Spent {
-    /// The records of the program that were looked at, the items of path patterns not counted.
+    /// The records of the program that were looked at, items of path patterns and communities not counted.
     pub steps: u32,
 }
 

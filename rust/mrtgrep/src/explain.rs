@@ -1,6 +1,6 @@
 //! A program in words, a row a record, so that a person sees what a filter was taken for.
 
-use grainlantern::{Item, Peer, Program, ProgramRecord, Relation, Side, Sign};
+use grainlantern::{Community, Item, Peer, Program, ProgramRecord, Relation, Side, Sign};
 
 /// The names of message types.
 const TYPES: [(u8, &str); 5] = [
@@ -32,7 +32,7 @@ const ATTRIBUTES: [(u8, &str); 13] = [
 const NO_WORD: &str = "?";
 
 /// The columns of the longest kind.
-const KIND: usize = "-timestamp".len();
+const KIND: usize = "-communities".len();
 
 /// The rows of a program, numbered from 1.
 pub fn rows(program: &Program) -> String {
@@ -62,6 +62,8 @@ fn kind(record: ProgramRecord) -> &'static str {
         ProgramRecord::Flip => "!",
         ProgramRecord::PassIfFalse { .. } => "-and",
         ProgramRecord::PassIfTrue { .. } => "-or",
+        ProgramRecord::Communities { .. } => "-communities",
+        ProgramRecord::Community(_) => "community",
         _ => NO_WORD,
     }
 }
@@ -115,6 +117,10 @@ fn words(record: ProgramRecord, number: usize, weight: usize) -> String {
         ProgramRecord::PassIfTrue { over } => {
             format!("if true, go to {}", landing(number, over, weight, "kept"))
         }
+        ProgramRecord::Communities { communities } => {
+            format!("the update carries {}", self::communities(communities))
+        }
+        ProgramRecord::Community(community) => self::community(community),
         other => format!("{other:?}"),
     }
 }
@@ -154,6 +160,20 @@ fn item(item: Item) -> String {
         Item::Not(number) => format!("any AS but {number}"),
         Item::Any => "any AS".to_owned(),
         other => format!("{other:?}"),
+    }
+}
+
+fn communities(count: u16) -> String {
+    match count {
+        1 => "the community below".to_owned(),
+        _ => format!("each of the {count} communities below"),
+    }
+}
+
+fn community(community: Community) -> String {
+    match community.name() {
+        Some(name) => format!("{name} ({}:{})", community.high, community.low),
+        None => community.to_string(),
     }
 }
 
@@ -225,6 +245,20 @@ mod tests {
             }
         }
         assert!(explained("-type 6").ends_with(" type 6\n"));
+        // RFC 1997
+        for (name, community) in [
+            ("NO_EXPORT", "65535:65281"),
+            ("NO_ADVERTISE", "65535:65282"),
+            ("NO_EXPORT_SUBCONFED", "65535:65283"),
+        ] {
+            let by_name = explained(&format!("-communities {name}"));
+            assert_eq!(by_name, explained(&format!("-communities {community}")));
+            assert!(
+                by_name.ends_with(&format!(" {name} ({community})\n")),
+                "{by_name}"
+            );
+        }
+        assert!(explained("-communities 65535:666").ends_with(" 65535:666\n"));
     }
 
     /// The compiler doesn't name a kind that is missing here, so the stored texts do.
@@ -251,26 +285,48 @@ mod tests {
     #[test]
     fn passes_land_on_a_row_or_at_the_end() {
         let wanted = "\
-1  -loops      an AS number of the path comes back after another one
-2  -or         if true, go to 7
-3  -aspath     the path begins with the 2 items below
-4  item        AS 5
-5  item        any AS but 6
-6  !           true becomes false, false becomes true
-7  -or         if true, go to the end: kept
-8  -bogon-asn  an AS number of the path is reserved or private
+1  -loops        an AS number of the path comes back after another one
+2  -or           if true, go to 7
+3  -aspath       the path begins with the 2 items below
+4  item          AS 5
+5  item          any AS but 6
+6  !             true becomes false, false becomes true
+7  -or           if true, go to the end: kept
+8  -bogon-asn    an AS number of the path is reserved or private
 ";
         assert_eq!(
             explained("-loops -or ! -aspath '^5 !6' -or -bogon-asn"),
             wanted
         );
         let wanted = "\
-1  -subnet     a withdrawn prefix is or lies in 10.0.0.0/8
-2  -and        if false, go to the end: dropped
-3  -timestamp  the record's time is at or after 7.500000 seconds
+1  -subnet       a withdrawn prefix is or lies in 10.0.0.0/8
+2  -and          if false, go to the end: dropped
+3  -timestamp    the record's time is at or after 7.500000 seconds
 ";
         assert_eq!(
             explained("-subnet -10.1.2.3/8 -and -timestamp >=7.5"),
+            wanted
+        );
+    }
+
+    #[test]
+    fn communities_are_told_from_items() {
+        let wanted = "\
+1  -communities  the update carries each of the 2 communities below
+2  community     64500:1
+3  community     NO_EXPORT (65535:65281)
+4  -or           if true, go to 7
+5  -aspath       the path has the item below, side by side
+6  item          AS 4294967041
+7  -or           if true, go to the end: kept
+8  -communities  the update carries the community below
+9  community     0:5
+";
+        // the number is that of NO_EXPORT, 65535 x 65536 + 65281
+        assert_eq!(
+            explained(
+                "-communities '64500:1 NO_EXPORT' -or -aspath 4294967041 -or -communities 0:5"
+            ),
             wanted
         );
     }

@@ -15,7 +15,7 @@ const BEFORE: usize = 40;
 const TAB: usize = 8;
 
 /// What the operand of each test looks like, with an example.
-const OPERANDS: [(&str, &str, &str); 9] = [
+const OPERANDS: [(&str, &str, &str); 10] = [
     (
         "-type",
         "OPEN, UPDATE, NOTIFICATION, KEEPALIVE, ROUTE_REFRESH or a code 0 to 255",
@@ -44,6 +44,11 @@ const OPERANDS: [(&str, &str, &str); 9] = [
         "-timestamp",
         "seconds since 1970, with at most 6 digits behind a dot; <, <=, >, >= or = may stand before them",
         "-timestamp '>=1622725323.5'",
+    ),
+    (
+        "-communities",
+        "N:M (each 0 to 65535), NO_EXPORT, NO_ADVERTISE or NO_EXPORT_SUBCONFED, several with blanks between, and asks for all of them",
+        "-communities '64500:1 NO_EXPORT'",
     ),
 ];
 

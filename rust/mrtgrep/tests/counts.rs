@@ -59,9 +59,8 @@ fn kept_records_are_counted() {
         .silently();
     for (name, kept) in EXAMPLES {
         let (filter, _) = example(name);
-        let updates = stored("examples/updates.mrt");
         folder
-            .fed(["-c", "-f", &filter], &updates)
+            .fed(["-c", "-f", &filter], &stored(&dump(name)))
             .gave(0, format!("{kept}\n"))
             .silently();
     }

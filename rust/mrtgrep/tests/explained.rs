@@ -11,11 +11,12 @@ const EVERY: &str = "-type UPDATE -and -attr COMMUNITY -and -attr 200 -and ! -lo
     -or ( -bogon-asn -or -aspath '^199036 !5 . 3333$' -or -aspath '^$' ) \
     -and -peer 199036 -and -peer 192.0.2.1 -and -peer '192.0.2.7 65001' \
     -and -exact 10.1.2.0/24 -and -supernet +10.2.0.0/16 -and -subnet -10.0.0.0/8 -and -related 0.0.0.0/0 \
-    -and -timestamp 1622725323 -and -timestamp <5.5 -and -timestamp <=6 -and -timestamp >7.000001 -and -timestamp >=8";
+    -and -timestamp 1622725323 -and -timestamp <5.5 -and -timestamp <=6 -and -timestamp >7.000001 -and -timestamp >=8 \
+    -and -communities '64500:1 65535:65281 65535:666'";
 
-/// Its program by document 01, a row a record: words that have to stand there. `a -and b` is a, a pass over b if false, b; `-or` likewise if
-/// true; rows count from 1.
-const ROWS: [&[&str]; 42] = [
+/// Its program by document 01 and request 1, a row a record: words that have to stand there. `a -and b` is a, a pass over b if false, b; `-or`
+/// likewise if true; rows count from 1.
+const ROWS: [&[&str]; 47] = [
     &["type", "UPDATE"],
     &["false", "4"],
     &["attr", "COMMUNITY"],
@@ -56,8 +57,13 @@ const ROWS: [&[&str]; 42] = [
     &["timestamp", "at or before", "6"],
     &["false", "41"],
     &["timestamp", "after", "7.000001"],
-    &["false", "end"],
+    &["false", "43"],
     &["timestamp", "at or after", "8"],
+    &["false", "end"],
+    &["communities", "each", "3"],
+    &["64500:1"],
+    &["NO_EXPORT"],
+    &["65535:666"],
 ];
 
 fn explained(filter: &str) -> Vec<String> {
@@ -85,6 +91,7 @@ fn a_good_filter_has_its_weight() {
             6,
         ),
         ("-aspath '^$'", 1),
+        ("-communities '64500:1 NO_EXPORT 64500:1'", 4),
         (KEEP_ALL, 4),
     ] {
         let ran = folder.run(["--check", "-e", filter]);
@@ -102,16 +109,18 @@ fn a_good_filter_has_its_weight() {
 #[test]
 fn the_heaviest_filter_is_good() {
     let folder = Folder::new("heaviest");
-    let items = vec!["."; 511].join(" ");
-    let ran = folder.run(["--check", "-aspath", &items]);
-    assert_eq!(ran.code, Some(0), "{}", ran.said);
-    assert!(numbers(&String::from_utf8(ran.out).unwrap()).contains(&512));
-    assert_eq!(explained(&format!("-aspath '{items}'")).len(), 512);
-    let items = vec!["."; 512].join(" ");
-    folder
-        .run(["--check", "-aspath", &items])
-        .gave(2, "")
-        .telling(&["(refused 7 at 0)"]);
+    for (test, item) in [("-aspath", "."), ("-communities", "0:0")] {
+        let items = vec![item; 511].join(" ");
+        let ran = folder.run(["--check", test, &items]);
+        assert_eq!(ran.code, Some(0), "{}", ran.said);
+        assert!(numbers(&String::from_utf8(ran.out).unwrap()).contains(&512));
+        assert_eq!(explained(&format!("{test} '{items}'")).len(), 512);
+        let items = vec![item; 512].join(" ");
+        folder
+            .run(["--check", test, &items])
+            .gave(2, "")
+            .telling(&["(refused 7 at 0)"]);
+    }
 }
 
 #[test]

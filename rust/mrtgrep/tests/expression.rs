@@ -88,6 +88,18 @@ fn an_argument_with_blanks_is_one_operand() {
         &["-aspath", " 199036\t3333\n", "-and", "-peer", "199036"],
     );
     keeps_r(&folder, &["-peer", "192.0.2.1\t199036"]);
+    // R has no communities
+    keeps_r(
+        &folder,
+        &[
+            "-peer",
+            "199036",
+            "-and",
+            "!",
+            "-communities",
+            "64500:1 NO_EXPORT",
+        ],
+    );
 }
 
 #[test]
@@ -111,7 +123,7 @@ fn an_argument_with_marks_among_other_bytes_is_one_operand() {
 #[test]
 fn an_empty_argument_is_an_empty_operand() {
     let folder = folder("no-bytes");
-    for test in ["-aspath", "-peer"] {
+    for test in ["-aspath", "-peer", "-communities"] {
         let place = test.len() + 1;
         folder.run(["r.mrt", test, ""]).gave(2, "").telling(&[
             &format!("mrtgrep: filter:1:{}: ", place + 1),

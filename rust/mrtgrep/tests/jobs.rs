@@ -18,7 +18,8 @@ fn without_seconds(said: &str) -> Vec<&str> {
 fn mixed_records_give_equal_bytes() {
     let mixed = mixed();
     let folder = Folder::new("mixed").with("mixed.mrt", &mixed.run);
-    for (name, kept) in EXAMPLES {
+    let of_updates = |(name, _): &(&str, usize)| dump(name) == "examples/updates.mrt";
+    for (name, kept) in EXAMPLES.into_iter().filter(of_updates) {
         let (filter, lines) = example(name);
         for jobs in ["1", "2", "4"] {
             folder

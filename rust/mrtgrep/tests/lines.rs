@@ -9,18 +9,17 @@ use common::*;
 #[test]
 fn the_examples_give_their_lines() {
     let folder = Folder::new("examples");
-    let updates = path("examples/updates.mrt");
-    let updates = updates.to_str().unwrap();
     for (name, _) in EXAMPLES {
         let (filter, lines) = example(name);
+        let dump = dump(name);
         folder
-            .run(["-f", &filter, updates])
+            .run(["-f", &filter, path(&dump).to_str().unwrap()])
             .gave(0, &lines)
             .silently();
         // the filter as text, and the records from standard input
         let text = stored_text(&format!("examples/{name}.filter"));
         folder
-            .fed(["-e", &text], &stored("examples/updates.mrt"))
+            .fed(["-e", &text], &stored(&dump))
             .gave(0, &lines)
             .silently();
     }

@@ -187,6 +187,7 @@ fn a_wrong_operand_names_its_test_and_shows_one() {
         ("-subnet", "/"),
         ("-related", "/"),
         ("-timestamp", ">="),
+        ("-communities", ":"),
     ] {
         let text = format!("-loops -and {test} x");
         let place = text.len() - 1;
@@ -236,6 +237,7 @@ fn the_example_of_a_wrong_operand_is_a_right_one() {
         "-subnet",
         "-related",
         "-timestamp",
+        "-communities",
     ] {
         let text = format!("{test} x");
         let place = test.len() + 1;

@@ -61,6 +61,12 @@ mod tests {
             ("-timestamp .5", 5, 11),
             ("-aspath ''", 5, 8),
             ("-aspath 'x", 3, 8),
+            ("-communities", 4, 12),
+            ("-communities !1:2", 4, 13),
+            ("-communities ''", 5, 13),
+            ("-communities -and", 5, 13),
+            ("-communities 1:2 3:4", 4, 17),
+            ("-communities '1:2 65536:0'", 5, 13),
         ] {
             assert_eq!(refused(text), Some((number, place)), "{text}");
         }
@@ -82,6 +88,9 @@ mod tests {
         let path = |items| format!("-aspath '{}'", vec!["."; items].join(" "));
         assert_eq!(refused(&path(511)), None);
         assert_eq!(refused(&path(512)), Some((7, 0)));
+        let communities = |items| format!("-communities '{}'", vec!["1:2"; items].join(" "));
+        assert_eq!(refused(&communities(511)), None);
+        assert_eq!(refused(&communities(512)), Some((7, 0)));
         assert_eq!(compile(b"-loops", 15), Err(Refusal::new(8, 0)));
         assert_eq!(compile(b"-loops", 16).map(|program| program.len()), Ok(16));
     }

@@ -6,6 +6,7 @@
 #![warn(missing_docs)]
 
 mod bytes;
+mod community;
 mod compile;
 mod filter;
 mod judge;

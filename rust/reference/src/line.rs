@@ -1,5 +1,6 @@
 //! The printed lines of a message.
 
+use crate::community::Community;
 use crate::message::{Message, Origin, Update};
 use crate::path::{AsPath, Order, Width};
 use crate::prefix::Prefix;
@@ -23,7 +24,7 @@ pub fn write(message: &Message, out: &mut Vec<u8>) {
     }
 }
 
-/// From the bar before AS_PATH to the bar after COMMUNITIES; the last two fields stay empty.
+/// From the bar before AS_PATH to the bar after COMMUNITIES.
 fn write_attributes(update: &Update, out: &mut Vec<u8>) {
     out.push(b'|');
     if let Some(path) = &update.path {
@@ -45,7 +46,17 @@ fn write_attributes(update: &Update, out: &mut Vec<u8>) {
     if update.atomic {
         out.extend_from_slice(b"AT");
     }
-    out.extend_from_slice(b"|||");
+    out.push(b'|');
+    if let Some(aggregator) = update.aggregator {
+        write_number(aggregator.number, out);
+        out.push(b' ');
+        write_address(aggregator.address, out);
+    }
+    out.push(b'|');
+    if let Some(communities) = &update.communities {
+        write_joined(communities, b' ', out, |c, out| write_community(*c, out));
+    }
+    out.push(b'|');
 }
 
 /// PEER, TIMESTAMP, ASN32BIT and the line's end.
@@ -80,6 +91,17 @@ fn write_path(path: &AsPath, out: &mut Vec<u8>) {
             }
         };
     });
+}
+
+fn write_community(community: Community, out: &mut Vec<u8>) {
+    if let Some(name) = community.name() {
+        out.extend_from_slice(name.as_bytes());
+        return;
+    }
+    let (first, second) = community.halves();
+    write_number(first.into(), out);
+    out.push(b':');
+    write_number(second.into(), out);
 }
 
 fn write_joined<T>(

@@ -1,6 +1,7 @@
 //! One MRT record taken apart (RFC 6396), with its BGP message (RFC 4271): refusals 11 to 18.
 
 use crate::bytes::Bytes;
+use crate::community::{self, Community};
 use crate::path::{AsPath, Width};
 use crate::prefix::{self, Prefix};
 
@@ -24,6 +25,8 @@ const ORIGIN: u8 = 1;
 const AS_PATH: u8 = 2;
 const NEXT_HOP: u8 = 3;
 const ATOMIC_AGGREGATE: u8 = 6;
+const AGGREGATOR: u8 = 7;
+const COMMUNITY: u8 = 8;
 
 /// A record that is readable.
 #[derive(Debug)]
@@ -47,6 +50,8 @@ pub struct Update {
     pub path: Option<AsPath>,
     pub next_hop: Option<u32>,
     pub atomic: bool,
+    pub aggregator: Option<Aggregator>,
+    pub communities: Option<Vec<Community>>,
 }
 
 #[derive(Clone, Copy, Debug, PartialEq, Eq)]
@@ -54,6 +59,13 @@ pub enum Origin {
     Igp,
     Egp,
     Incomplete,
+}
+
+/// The speaker that formed an aggregate.
+#[derive(Clone, Copy, Debug, PartialEq, Eq)]
+pub struct Aggregator {
+    pub number: u32,
+    pub address: u32,
 }
 
 /// The codes of the attributes that are present, a bit for each.
@@ -154,6 +166,8 @@ impl Update {
         let path = checked(attributes.path, |body| AsPath::read(body, width))?;
         let next_hop = checked(attributes.next_hop, read_next_hop)?;
         let atomic = checked(attributes.atomic, |body| body.is_empty().then_some(()))?;
+        let aggregator = checked(attributes.aggregator, |body| read_aggregator(body, width))?;
+        let communities = checked(attributes.communities, community::read_all)?;
         Ok(Update {
             withdrawn: prefix::read_all(sections.withdrawn).ok_or(18u32)?,
             announced: prefix::read_all(sections.announced).ok_or(18u32)?,
@@ -162,6 +176,8 @@ impl Update {
             path,
             next_hop,
             atomic: atomic.is_some(),
+            aggregator,
+            communities,
         })
     }
 }
@@ -195,6 +211,8 @@ struct Attributes<'a> {
     path: Option<&'a [u8]>,
     next_hop: Option<&'a [u8]>,
     atomic: Option<&'a [u8]>,
+    aggregator: Option<&'a [u8]>,
+    communities: Option<&'a [u8]>,
 }
 
 impl<'a> Attributes<'a> {
@@ -212,6 +230,8 @@ impl<'a> Attributes<'a> {
                 AS_PATH => attributes.path = Some(body),
                 NEXT_HOP => attributes.next_hop = Some(body),
                 ATOMIC_AGGREGATE => attributes.atomic = Some(body),
+                AGGREGATOR => attributes.aggregator = Some(body),
+                COMMUNITY => attributes.communities = Some(body),
                 _ => {}
             }
         }
@@ -251,4 +271,32 @@ fn read_origin(body: &[u8]) -> Option<Origin> {
 
 fn read_next_hop(body: &[u8]) -> Option<u32> {
     body.try_into().ok().map(u32::from_be_bytes)
+}
+
+/// An AS number of the record's width and an address, and no more.
+fn read_aggregator(body: &[u8], width: Width) -> Option<Aggregator> {
+    let mut bytes = Bytes(body);
+    let aggregator = Aggregator {
+        number: width.read(&mut bytes)?,
+        address: bytes.u32()?,
+    };
+    bytes.is_empty().then_some(aggregator)
+}
+
+#[cfg(test)]
+mod tests {
+    use super::*;
+
+    #[test]
+    fn an_aggregator_has_the_record_s_width() {
+        let (number, address) = (64500, 0xC000_0201);
+        let wanted = Some(Aggregator { number, address });
+        let narrow = [0xFB, 0xF4, 192, 0, 2, 1];
+        let wide = [0, 0, 0xFB, 0xF4, 192, 0, 2, 1];
+        assert_eq!(read_aggregator(&narrow, Width::Two), wanted);
+        assert_eq!(read_aggregator(&wide, Width::Four), wanted);
+        assert_eq!(read_aggregator(&wide, Width::Two), None);
+        assert_eq!(read_aggregator(&narrow, Width::Four), None);
+        assert_eq!(read_aggregator(&[], Width::Two), None);
+    }
 }

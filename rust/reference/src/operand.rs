@@ -2,6 +2,7 @@
 
 use std::net::Ipv4Addr;
 
+use crate::community::Community;
 use crate::path::{Item, Pattern};
 use crate::prefix::Prefix;
 use crate::test::{Comparison, Network, Peer, Relation, Side, Time};
@@ -63,11 +64,10 @@ pub fn pattern(operand: &str) -> Option<Pattern> {
     }
     let (start, rest) = stripped(trimmed.strip_prefix('^'), trimmed);
     let (end, items) = stripped(rest.strip_suffix('$'), rest);
-    let items = items.split(BLANKS).filter(|word| !word.is_empty());
     Some(Pattern {
         start,
         end,
-        items: items.map(item).collect::<Option<_>>()?,
+        items: words(items).map(item).collect::<Option<_>>()?,
     })
 }
 
@@ -130,6 +130,33 @@ pub fn time(operand: &str) -> Option<Time> {
         seconds: decimal(seconds)?,
         micros,
     })
+}
+
+/// One or more communities parted by blanks, with none at the ends.
+pub fn communities(operand: &str) -> Option<Vec<Community>> {
+    let trimmed = operand.trim_matches(BLANKS);
+    if trimmed.is_empty() || trimmed != operand {
+        return None;
+    }
+    words(operand).map(community).collect()
+}
+
+/// `N:M` or a name.
+fn community(word: &str) -> Option<Community> {
+    if let Some(community) = Community::named(word) {
+        return Some(community);
+    }
+    let (first, second) = word.split_once(':')?;
+    Some(Community::new(half(first)?, half(second)?))
+}
+
+fn half(text: &str) -> Option<u16> {
+    decimal(text)?.try_into().ok()
+}
+
+/// Runs without blanks.
+fn words(text: &str) -> impl Iterator<Item = &str> {
+    text.split(BLANKS).filter(|word| !word.is_empty())
 }
 
 /// One to six digits after the dot; leading zeros count.
@@ -288,6 +315,50 @@ mod tests {
             "7 ",
         ] {
             assert_eq!(time(wrong), None, "{wrong}");
+        }
+    }
+
+    #[test]
+    fn community_lists() {
+        let read = |text| communities(text).map(|all| all.iter().map(|c| c.halves()).collect());
+        assert_eq!(read("0:0"), Some(vec![(0, 0)]));
+        assert_eq!(read("65535:65535"), Some(vec![(65535, 65535)]));
+        assert_eq!(
+            read("3356:3 \t\nNO_EXPORT 3356:3"),
+            Some(vec![(3356, 3), (65535, 65281), (3356, 3)])
+        );
+        for wrong in [
+            "",
+            " ",
+            " 1:2",
+            "1:2 ",
+            "1:2\n",
+            "65536:1",
+            "1:65536",
+            "01:2",
+            "1:02",
+            "00:0",
+            "1:",
+            ":1",
+            ":",
+            "1",
+            "1:2:3",
+            "1::2",
+            "1 :2",
+            "1: 2",
+            "1.2",
+            "1:2.",
+            "1:2,3:4",
+            "+1:2",
+            "1:-2",
+            "no_export",
+            "NO_EXPOR",
+            "NO_EXPORTS",
+            "NO_EXPORT:1",
+            "NO_EXPORT_SUB",
+            "1:2 x",
+        ] {
+            assert_eq!(communities(wrong), None, "{wrong}");
         }
     }
 }

@@ -118,6 +118,9 @@ impl<'a> Parser<'a> {
             "-subnet" => self.network(Relation::Subnet),
             "-related" => self.network(Relation::Related),
             "-timestamp" => self.operand(|text| operand::time(text).map(Test::Time)),
+            "-communities" => {
+                self.operand(|text| operand::communities(text).map(Test::Communities))
+            }
             _ => Err(Refusal::new(4, place)),
         }
     }

@@ -23,8 +23,8 @@ impl Op {
     /// The records that it takes in a program.
     fn weight(&self) -> usize {
         match self {
-            Op::Test(Test::Path(pattern)) => 1 + pattern.items.len(),
-            _ => 1,
+            Op::Test(test) => 1 + test.item_count(),
+            Op::Flip | Op::Pass { .. } => 1,
         }
     }
 }
@@ -51,16 +51,16 @@ pub fn encode(ops: &[Op]) -> Vec<u8> {
     let mut program = Vec::with_capacity(RECORD * weight(ops));
     for (at, op) in ops.iter().enumerate() {
         match op {
-            Op::Test(test) => Record::of_test(test).append(&mut program),
+            Op::Test(test) => {
+                Record::of_test(test).append(&mut program);
+                for item in Record::of_items(test) {
+                    item.append(&mut program);
+                }
+            }
             Op::Flip => Record::flip().append(&mut program),
             Op::Pass { when, over } => {
                 let records = places[at + 1 + over] - places[at + 1];
                 Record::pass(*when, records).append(&mut program);
-            }
-        }
-        if let Op::Test(Test::Path(pattern)) = op {
-            for item in &pattern.items {
-                Record::of_item(*item).append(&mut program);
             }
         }
     }

@@ -1,6 +1,7 @@
 //! The records of a program: 16 bytes each, with the layout of the paper's table.
 
 use crate::bytes::Bytes;
+use crate::community::Community;
 use crate::path::{Item, Pattern};
 use crate::prefix::Prefix;
 use crate::program::Op;
@@ -70,14 +71,14 @@ impl Record {
         Record::new(kind, 0).counting(records)
     }
 
-    /// The record of a test; a path's items follow it.
+    /// The record of a test; its items follow it.
     pub fn of_test(test: &Test) -> Record {
         match test {
             Test::Type(code) => Record::new(1, 0).with((*code).into(), 0),
             Test::Attribute(code) => Record::new(2, 0).with((*code).into(), 0),
             Test::Path(pattern) => {
                 let pins = u8::from(pattern.start) + 2 * u8::from(pattern.end);
-                Record::new(3, pins).counting(pattern.items.len())
+                Record::new(3, pins).counting(test.item_count())
             }
             Test::Peer(Peer::Number(number)) => Record::new(5, 1).with(0, *number),
             Test::Peer(Peer::Address(address)) => Record::new(5, 2).with(*address, 0),
@@ -90,15 +91,29 @@ impl Record {
             Test::Time(time) => {
                 Record::new(9, time.comparison as u8).with(time.seconds, time.micros)
             }
+            Test::Communities(_) => Record::new(13, 0).counting(test.item_count()),
         }
     }
 
-    pub fn of_item(item: Item) -> Record {
+    /// The items that follow the record of a test.
+    pub fn of_items(test: &Test) -> Vec<Record> {
+        match test {
+            Test::Path(pattern) => pattern.items.iter().copied().map(Record::of_item).collect(),
+            Test::Communities(asked) => asked.iter().copied().map(Record::of_community).collect(),
+            _ => Vec::new(),
+        }
+    }
+
+    fn of_item(item: Item) -> Record {
         match item {
             Item::Number(number) => Record::new(4, 0).with(number, 0),
             Item::Not(number) => Record::new(4, 1).with(number, 0),
             Item::Any => Record::new(4, 2),
         }
+    }
+
+    fn of_community(community: Community) -> Record {
+        Record::new(4, 0).with(community.0, 0)
     }
 
     /// The operation that begins here, and the records after it. A pass still counts records.
@@ -113,6 +128,10 @@ impl Record {
                 let when = self.kind == 12;
                 let over = self.count.into();
                 Some((Op::Pass { when, over }, after))
+            }
+            (13, 0, 1.., 0, 0) => {
+                let (items, after) = self.items(after, Record::community)?;
+                Some((Op::Test(Test::Communities(items)), after))
             }
             _ => Some((Op::Test(self.test()?), after)),
         }
@@ -141,7 +160,7 @@ impl Record {
     }
 
     fn pattern(self, after: &[Record]) -> Option<(Pattern, &[Record])> {
-        let (items, after) = after.split_at_checked(self.count.into())?;
+        let (items, after) = self.items(after, Record::item)?;
         let is_empty = self.variant == 0 && items.is_empty();
         if is_empty {
             return None;
@@ -149,12 +168,20 @@ impl Record {
         let pattern = Pattern {
             start: self.variant & 1 != 0,
             end: self.variant & 2 != 0,
-            items: items
-                .iter()
-                .map(|item| item.item())
-                .collect::<Option<_>>()?,
+            items,
         };
         Some((pattern, after))
+    }
+
+    /// As many items as the record counts, and the records after them.
+    fn items<T>(
+        self,
+        after: &[Record],
+        read: fn(Record) -> Option<T>,
+    ) -> Option<(Vec<T>, &[Record])> {
+        let (items, after) = after.split_at_checked(self.count.into())?;
+        let items = items.iter().copied().map(read).collect::<Option<_>>()?;
+        Some((items, after))
     }
 
     fn item(self) -> Option<Item> {
@@ -163,6 +190,14 @@ impl Record {
             (4, 1, 0, number, 0) => Some(Item::Not(number)),
             (4, 2, 0, 0, 0) => Some(Item::Any),
             _ => None,
+        }
+    }
+
+    /// An item of variant 0, with any A.
+    fn community(self) -> Option<Community> {
+        match self.item()? {
+            Item::Number(number) => Some(Community(number)),
+            Item::Not(_) | Item::Any => None,
         }
     }
 

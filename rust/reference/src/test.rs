@@ -1,5 +1,6 @@
 //! The tests of the filter language, and whether one is true of a message.
 
+use crate::community::{self, Community};
 use crate::message::{Message, Update};
 use crate::path::{AsPath, Pattern};
 use crate::prefix::Prefix;
@@ -14,6 +15,7 @@ pub enum Test {
     Bogon,
     Network(Network),
     Time(Time),
+    Communities(Vec<Community>),
 }
 
 /// A peer by its address, its AS number or both.
@@ -77,6 +79,18 @@ impl Test {
             Test::Bogon => of_path(message, AsPath::has_bogon),
             Test::Network(network) => of_update(message, |update| network.holds(update)),
             Test::Time(time) => time.holds(message.seconds),
+            Test::Communities(asked) => {
+                of_communities(message, |held| community::holds_all(held, asked))
+            }
+        }
+    }
+
+    /// The items that follow the test's record in a program.
+    pub fn item_count(&self) -> usize {
+        match self {
+            Test::Path(pattern) => pattern.items.len(),
+            Test::Communities(asked) => asked.len(),
+            _ => 0,
         }
     }
 }
@@ -89,6 +103,13 @@ fn of_update(message: &Message, test: impl FnOnce(&Update) -> bool) -> bool {
 /// False of an UPDATE without AS_PATH too.
 fn of_path(message: &Message, test: impl FnOnce(&AsPath) -> bool) -> bool {
     of_update(message, |update| update.path.as_ref().is_some_and(test))
+}
+
+/// False of an UPDATE without COMMUNITY too.
+fn of_communities(message: &Message, test: impl FnOnce(&[Community]) -> bool) -> bool {
+    of_update(message, |update| {
+        update.communities.as_deref().is_some_and(test)
+    })
 }
 
 impl Peer {

@@ -1,4 +1,4 @@
-//! The known pairs of the paper, and programs that no text gives.
+//! The known pairs of the paper, its record with further attributes, and programs that no text gives.
 
 use reference::{compile, judge, Judged, Spent, Tally};
 
@@ -69,6 +69,75 @@ fn r_takes_71_bytes() {
     assert_eq!(judge_r("-peer 2428", 0), dropped(1));
 }
 
+/// The line of R with further attributes, where it is kept, or the number of its refusal.
+fn judge_r_with(attributes: &[u8], text: &str) -> Result<Option<String>, u32> {
+    const MESSAGE: usize = 32;
+    const PREFIX: usize = 4;
+    let mut record = R.to_vec();
+    let end = record.len() - PREFIX;
+    record.splice(end..end, attributes.iter().copied());
+    for lowest_byte in [11, MESSAGE + 17, MESSAGE + 22] {
+        record[lowest_byte] += attributes.len() as u8;
+    }
+    let program = compile(text.as_bytes(), PROGRAM_ROOM).expect(text);
+    match judge(&program, &record, LINE_ROOM, None) {
+        Judged::Kept { lines, .. } => Ok(Some(String::from_utf8(lines).unwrap())),
+        Judged::Dropped { .. } => Ok(None),
+        Judged::Refused(number) => Err(number),
+    }
+}
+
+#[test]
+fn aggregators_and_communities_are_printed() {
+    let line = |fields: &str| {
+        let front = "+|10.1.2.0/24|199036 3333|192.0.2.1|i|";
+        Ok(Some(format!(
+            "{front}|{fields}|192.0.2.1 199036|1622725323|1\n"
+        )))
+    };
+    let judged = |attributes: &[u8]| judge_r_with(attributes, "-type UPDATE");
+    let aggregator = [0xC0, 7, 8, 0, 0, 0xFB, 0xF4, 192, 0, 2, 1];
+    assert_eq!(judged(&aggregator), line("64500 192.0.2.1|"));
+    assert_eq!(judged(&[0xC0, 8, 0]), line("|"));
+    let known = [
+        0xC0, 8, 20, 255, 255, 255, 3, 0, 1, 0, 2, 255, 255, 255, 1, 0, 1, 0, 2, 255, 255, 255, 2,
+    ];
+    let names = "|NO_EXPORT_SUBCONFED 1:2 NO_EXPORT 1:2 NO_ADVERTISE";
+    assert_eq!(judged(&known), line(names));
+    let blackhole = [0xC0, 8, 4, 255, 255, 2, 154];
+    assert_eq!(judged(&blackhole), line("|65535:666"));
+
+    for wrong in [
+        &[0xC0, 7, 0][..],
+        &[0xC0, 7, 6, 0xFB, 0xF4, 192, 0, 2, 1],
+        &[0xC0, 8, 6, 0, 1, 0, 2, 0, 1],
+        &[0xC0, 8, 1, 0],
+    ] {
+        assert_eq!(judged(wrong), Err(17), "{wrong:?}");
+    }
+    // AS4_AGGREGATOR and other attributes are free
+    assert_eq!(judged(&[0xC0, 18, 1, 0, 0xC0, 32, 1, 0]), line("|"));
+}
+
+#[test]
+fn all_communities_that_are_asked_for() {
+    let two = &[0xC0, 8, 8, 0, 1, 0, 2, 255, 255, 255, 1][..];
+    for (attributes, operand, kept) in [
+        (two, "1:2", true),
+        (two, "NO_EXPORT", true),
+        (two, "65535:65281 1:2", true),
+        (two, "1:2 1:2", true),
+        (two, "2:1", false),
+        (two, "1:2 1:3", false),
+        (two, "NO_ADVERTISE", false),
+        (&[0xC0, 8, 0], "1:2", false),
+        (&[], "1:2", false),
+    ] {
+        let judged = judge_r_with(attributes, &format!("-communities '{operand}'"));
+        assert_eq!(judged.map(|line| line.is_some()), Ok(kept), "{operand}");
+    }
+}
+
 /// A record of a program, with its last four bytes zero.
 fn record(kind: u8, variant: u8, count: u16, a: u32, b: u32) -> Vec<u8> {
     let (count, a, b) = (count.to_be_bytes(), a.to_be_bytes(), b.to_be_bytes());
@@ -79,6 +148,8 @@ fn record(kind: u8, variant: u8, count: u16, a: u32, b: u32) -> Vec<u8> {
 fn programs_that_no_text_gives() {
     let loops = record(6, 0, 0, 0, 0);
     let item = record(4, 2, 0, 0, 0);
+    let community = record(4, 0, 0, 0xFFFF_FF01, 0);
+    let one = record(13, 0, 1, 0, 0);
     let mut last_bytes = loops.clone();
     last_bytes[15] = 1;
     let not_valid = [
@@ -114,9 +185,32 @@ fn programs_that_no_text_gives() {
             loops.clone(),
             record(12, 0, 1, 0, 0),
             record(3, 0, 1, 0, 0),
-            item,
+            item.clone(),
         ]
         .concat(),
+        // one that lands on a community
+        [
+            loops.clone(),
+            record(12, 0, 1, 0, 0),
+            one.clone(),
+            community.clone(),
+        ]
+        .concat(),
+        // communities that aren't as many as the record counts, or no item of variant 0
+        one.clone(),
+        community.clone(),
+        [record(13, 0, 0, 0, 0), loops.clone()].concat(),
+        [record(13, 1, 1, 0, 0), community.clone()].concat(),
+        [record(13, 0, 1, 1, 0), community.clone()].concat(),
+        [record(13, 0, 1, 0, 1), community.clone()].concat(),
+        [record(13, 0, 2, 0, 0), community.clone()].concat(),
+        [record(13, 0, 2, 0, 0), community.clone(), loops.clone()].concat(),
+        [record(13, 0, 512, 0, 0), community.repeat(512)].concat(),
+        [one.clone(), community.repeat(2)].concat(),
+        [one.clone(), record(4, 1, 0, 5, 0)].concat(),
+        [one.clone(), record(4, 0, 1, 5, 0)].concat(),
+        [one.clone(), record(4, 0, 0, 5, 1)].concat(),
+        [one, item].concat(),
     ];
     for program in not_valid {
         let answer = judge(&program, &R, LINE_ROOM, None);
@@ -133,6 +227,8 @@ fn programs_that_are_valid_record_by_record() {
     assert_eq!(judge(&loops.repeat(512), &R, LINE_ROOM, None), dropped(512));
     let longest = [loops.clone(), record(11, 0, 510, 0, 0), loops.repeat(510)].concat();
     assert_eq!(judge(&longest, &R, LINE_ROOM, None), dropped(2));
+    let most = [record(13, 0, 511, 0, 0), record(4, 0, 0, 7, 0).repeat(511)].concat();
+    assert_eq!(judge(&most, &R, LINE_ROOM, None), dropped(1));
 }
 
 #[test]

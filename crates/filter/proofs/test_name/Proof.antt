@@ -101,10 +101,21 @@ returns-9 : tie.Need-returns-9
 unfolding vocabulary
 returns-9 c = sym (row-found operandRows past names-differ 8 (c .before .before .before .before .before .before .before .before .before .before .before .before .before .before .before .before .before .before .before .before .before .before .before .before .before .before .before .before .args .word .now) (omega arith) (c .before .same9 .ensures) (c .if9 .taken))
 
+slice-aggregate-same-10 : tie.Need-slice-aggregate-same-10
+slice-aggregate-same-10 c = search needs
+
+same-requires-10 : tie.Need-same-requires-10
+same-requires-10 c κs = search needs
+
 returns-10 : tie.Need-returns-10
+unfolding vocabulary
+returns-10 c = sym (row-found operandRows past names-differ 9 (c .before .before .before .before .before .before .before .before .before .before .before .before .before .before .before .before .before .before .before .before .before .before .before .before .before .before .before .before .before .before .before .args .word .now) (omega arith) (c .before .same10 .ensures) (c .if10 .taken))
+
+returns-11 : tie.Need-returns-11
 unfolding vocabulary found
-returns-10 c =
-    let c8 = c .before .before .before in
+returns-11 c =
+    let c9 = c .before .before .before in
+    let c8 = c9 .before .before .before in
     let c7 = c8 .before .before .before in
     let c6 = c7 .before .before .before in
     let c5 = c6 .before .before .before in
@@ -122,8 +133,9 @@ returns-10 c =
     (one-missed (c6 .before .same6 .ensures) (c6 .if6 .left)
     (one-missed (c7 .before .same7 .ensures) (c7 .if7 .left)
     (one-missed (c8 .before .same8 .ensures) (c8 .if8 .left)
-    (one-missed (c .before .same9 .ensures) (c .if9 .left)
-    none-missed))))))))))
+    (one-missed (c9 .before .same9 .ensures) (c9 .if9 .left)
+    (one-missed (c .before .same10 .ensures) (c .if10 .left)
+    none-missed)))))))))))
 
 pub test-name-spec : {M : Type 1} → statement M
 test-name-spec =
@@ -156,4 +168,7 @@ test-name-spec =
     slice-aggregate-same-9
     same-requires-9
     returns-9
-    returns-10)
+    slice-aggregate-same-10
+    same-requires-10
+    returns-10
+    returns-11)

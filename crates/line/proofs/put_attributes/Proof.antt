@@ -4,8 +4,9 @@ use denote.Ref.{now}
 use Rattle.octets.proofs.Writes.{both}
 use Rattle.aspath.specs.Wire.{widthBytes}
 use Rattle.attributes.specs.Bodies.{attributesOf}
-use Rattle.line.specs.Line.{pathField, nextHopField, originField, atomicField}
+use Rattle.line.specs.Line.{pathField, nextHopField, originField, atomicField, aggregatorField, communitiesField}
 use Rattle.line.specs.Text.{bar, following}
+use Rattle.line.proofs.Texts.{last-written}
 use borrow.Author.Needs.{needs}
 use Rattle.line.proofs.put_attributes.Statement.{statement}
 use Rattle.line.proofs.put_attributes.Tie as tie
@@ -22,11 +23,11 @@ put-origin-field-requires c κs = search needs
 put-atomic-field-requires : tie.Need-put-atomic-field-requires
 put-atomic-field-requires c κs = search needs
 
-put-requires : tie.Need-put-requires
-put-requires c κs = search needs
+put-aggregator-field-requires : tie.Need-put-aggregator-field-requires
+put-aggregator-field-requires c κs = search needs
 
-put-requires-2 : tie.Need-put-requires-2
-put-requires-2 c κs = search needs
+put-communities-field-requires : tie.Need-put-communities-field-requires
+put-communities-field-requires c κs = search needs
 
 same-length : tie.Need-same-length
 same-length c = search needs
@@ -39,7 +40,7 @@ returns c = let a = c .before .before .before .before .before .before .before .b
     (both ((bar ∷ []) ++ nextHopField attributes) _ (c .before .before .before .before .before .before .before .before .before .before .before .before .before .before .before .before .before .before .put-next-hop-field .ensures)
     (both ((bar ∷ []) ++ originField attributes) _ (c .before .before .before .before .before .before .before .before .before .before .before .before .before .before .put-origin-field .ensures)
     (both ((bar ∷ []) ++ atomicField attributes) _ (c .before .before .before .before .before .before .before .before .before .before .put-atomic-field .ensures)
-    (both (bar ∷ []) (bar ∷ []) (c .before .before .before .before .before .before .put .ensures) (c .before .before .put2 .ensures)))))
+    (both ((bar ∷ []) ++ aggregatorField attributes) _ (c .before .before .before .before .before .before .put-aggregator-field .ensures) (last-written bar (communitiesField attributes) (c .before .before .put-communities-field .ensures))))))
 
 pub put-attributes-spec : {M : Type 1} → statement M
 put-attributes-spec =
@@ -49,7 +50,7 @@ put-attributes-spec =
     put-next-hop-field-requires
     put-origin-field-requires
     put-atomic-field-requires
-    put-requires
-    put-requires-2
+    put-aggregator-field-requires
+    put-communities-field-requires
     same-length
     returns)

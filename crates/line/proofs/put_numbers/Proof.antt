@@ -11,7 +11,7 @@ use Rattle.octets.specs.Decimal.{decimal}
 use Rattle.octets.proofs.Writes.{Midst}
 use Rattle.aspath.specs.Wire.{widthBytes, numbersIn}
 use Rattle.line.specs.Text.{following}
-use Rattle.line.proofs.Numbers.{number-here, numbers-next, numbers-end, numbers-room}
+use Rattle.line.proofs.Numbers.{number-read, numbers-next, numbers-end, numbers-room}
 use Rattle.line.proofs.Texts.{none-written, begins, next-written, all-written}
 use Rattle.line.proofs.put_numbers.Statement.{statement}
 use Rattle.line.proofs.put_numbers.Tie as tie
@@ -74,7 +74,7 @@ loop-again c = let s = now (c .before .before .before .before .before .before .b
       omega (arith, l .inv .0, numbers-room w (l .left) (omega arith)),
       rw (← drop-drop w (l .p) s)
           (next-written _ _ _ (numbers-next w (l .left) (drop (l .p) s) (omega arith)) (l .inv .1) (c .before .before .before .before .before .before .before .put .ensures)
-          (rw (number-here s (l .p) (c .before .before .before .before .before .before .before .before .before .before .before .before .before .before .before .before .width-bytes .ensures .1) (c .before .before .before .number2 .ensures)) at (c .before .before .put-decimal2 .ensures))),
+          (rw (number-read s (l .p) (c .before .before .before .before .before .before .before .before .before .before .before .before .before .before .before .before .width-bytes .ensures .1) (c .before .before .before .number2 .ensures)) at (c .before .before .put-decimal2 .ensures))),
     )
 
 same-length : tie.Need-same-length Inv-loop μ-loop
@@ -87,7 +87,7 @@ returns-2 c = let a = c .before .before .before .before .before .before .before 
     let w = c .before .before .before .before .before .before .before .width-bytes .result in
     rw (← c .before .before .before .before .before .before .before .width-bytes .ensures .0)
     (all-written _ _ _ (numbers-next w (a .count) (drop (a .start) s) (omega arith)) (numbers-end w (l .left) (drop (l .p) s) (omega arith))
-    (rw (number-here s (a .start) (c .before .before .before .before .before .before .before .width-bytes .ensures .1) (c .before .before .before .before .before .number .ensures)) at (c .before .before .before .before .put-decimal .ensures))
+    (rw (number-read s (a .start) (c .before .before .before .before .before .before .before .width-bytes .ensures .1) (c .before .before .before .before .before .number .ensures)) at (c .before .before .before .before .put-decimal .ensures))
     (rw drop-drop (l .inv .1)))
 
 pub put-numbers-spec : {M : Type 1} → statement M

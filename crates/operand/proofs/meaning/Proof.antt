@@ -76,6 +76,12 @@ enum-known-name c = search needs
 network-operand-requires : tie.Need-network-operand-requires
 network-operand-requires c κs = search needs
 
+enum-told-6 : tie.Need-enum-told-6
+enum-told-6 c = search needs
+
+communities-operand-requires : tie.Need-communities-operand-requires
+communities-operand-requires c κs = search needs
+
 returns-2 : tie.Need-returns-2
 unfolding operandMeaning meaning coded headFields headOf itemsOf
 returns-2 c = let s = now (c .before .before .before .before .before .before .args .bytes) in
@@ -102,6 +108,10 @@ returns-7 : tie.Need-returns-7
 unfolding operandMeaning
 returns-7 c = rw (le-ltb textLimit (length (now (c .before .before .before .before .before .before .args .bytes))) (c .before .before .before .before .if1 .left), c .before .before .name .given .1) (c .network-operand .ensures)
 
+returns-8 : tie.Need-returns-8
+unfolding operandMeaning
+returns-8 c = rw (le-ltb textLimit (length (now (c .before .before .before .before .before .args .bytes))) (c .before .before .before .if1 .left), c .before .enum-told6 .given .1) (c .communities-operand .ensures)
+
 pub meaning-spec : {M : Type 1} → statement M
 meaning-spec =
     tie.close
@@ -121,9 +131,12 @@ meaning-spec =
     time-requires
     enum-known-name
     network-operand-requires
+    enum-told-6
+    communities-operand-requires
     returns-2
     returns-3
     returns-4
     returns-5
     returns-6
-    returns-7)
+    returns-7
+    returns-8)

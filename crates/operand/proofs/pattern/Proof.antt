@@ -1,6 +1,7 @@
 -- `operand::pattern` meets its contract, by the places where the parts of a pattern end. Assumes nothing.
 use native.Mathlib.Omega.{arith}
 use borrow.Author.Needs.{needs}
+use Rattle.operand.specs.Listed.{listedRead}
 use Rattle.operand.proofs.Blanks.{blanks-within}
 use Rattle.operand.proofs.PatternMeant.{broken-behind, broken-empty, pattern-here}
 use Rattle.operand.proofs.pattern.Statement.{statement}
@@ -25,6 +26,7 @@ blanks-end-requires-3 : tie.Need-blanks-end-requires-3
 blanks-end-requires-3 c κs = search needs
 
 returns : tie.Need-returns
+unfolding listedRead
 returns c =
     broken-behind (c .before .before .before .before .before .before .blanks-end .ensures) (c .before .before .before .before .before .optional-end .ensures) (c .before .before .before .before .blanks-end2 .ensures) (c .before .before .before .items-at .ensures) (c .before .before .optional-end2 .ensures) (c .before .blanks-end3 .ensures)
     (c .if1 .taken)
@@ -51,11 +53,13 @@ add-if2 : tie.Need-add-if2
 add-if2 c = search needs
 
 returns-2 : tie.Need-returns-2
+unfolding listedRead
 returns-2 c =
     broken-empty (c .before .before .before .before .before .before .before .before .blanks-end .ensures) (c .before .before .before .before .before .before .before .optional-end .ensures) (c .before .before .before .before .before .before .blanks-end2 .ensures) (c .before .before .before .before .before .items-at .ensures) (c .before .before .before .before .optional-end2 .ensures) (c .before .before .before .blanks-end3 .ensures)
     (c .if2 .taken)
 
 returns-3 : tie.Need-returns-3
+unfolding listedRead
 returns-3 c =
     pattern-here (c .before .before .before .before .before .before .before .before .blanks-end .ensures) (c .before .before .before .before .before .before .before .optional-end .ensures) (c .before .before .before .before .before .before .blanks-end2 .ensures) (c .before .before .before .before .before .items-at .ensures) (c .before .before .before .before .optional-end2 .ensures) (c .before .before .before .blanks-end3 .ensures)
     (c .before .before .if1 .left) (c .if2 .left)

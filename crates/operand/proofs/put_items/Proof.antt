@@ -24,7 +24,7 @@ use Rattle.operand.specs.Peers.{peerOperand}
 use Rattle.operand.specs.Times.{timeOperand}
 use Rattle.operand.specs.Tests.{meaning, operandMeaning, followingMeant}
 use Rattle.operand.specs.declared.Name.{Name}
-use Rattle.operand.specs.declared.Name.the-variants.{MessageType as typeName, Attribute as attributeName, Path as pathName, Peer as peerName, Time as timeName, Network as networkName}
+use Rattle.operand.specs.declared.Name.the-variants.{MessageType as typeName, Attribute as attributeName, Path as pathName, Peer as peerName, Time as timeName, Network as networkName, Communities as communitiesName}
 use Rattle.operand.proofs.Name.{the-type}
 use Rattle.operand.proofs.put_items.Statement.{statement}
 use Rattle.operand.proofs.put_items.Tie as tie
@@ -34,7 +34,7 @@ bare : {A : Type 0} (o : Option A) (f : A → Test) → ((a : A) → itemsOf (f 
 bare none f e = refl
 bare (some a) f e = ap (map item) (e a)
 
--- only a path has any
+-- only a path and communities have any
 others-bare : (k : Name) → OneOf (0 ∷ 1 ∷ 3 ∷ 4 ∷ 5 ∷ []) (tagOf the-type k) → (v : List ℕ) → followingMeant (meaning k v) ≡ []
 unfolding meaning itemsOf
 others-bare typeName o v = bare (coded typeNames v) typeIs (λ c. refl)
@@ -42,6 +42,7 @@ others-bare attributeName o v = bare (coded attributeNames v) hasAttribute (λ c
 others-bare pathName o v = absurd (miss (0 ∷ 1 ∷ 3 ∷ 4 ∷ 5 ∷ []) 2 tt o)
 others-bare peerName o v = bare (peerOperand v) peerIs (λ p. refl)
 others-bare timeName o v = bare (timeOperand v) (λ t. timeIs (t .comparison) (t .seconds) (t .micros)) (λ t. refl)
+others-bare communitiesName o v = absurd (miss (0 ∷ 1 ∷ 3 ∷ 4 ∷ 5 ∷ []) 6 tt o)
 others-bare (networkName r) o v = bare (networkOperand v) (λ n. networkIs r (n .network) (n .side)) (λ n. refl)
 
 returns : tie.Need-returns
@@ -54,6 +55,12 @@ enum-told c = search needs
 put-pattern-items-requires : tie.Need-put-pattern-items-requires
 put-pattern-items-requires c κs = search needs
 
+enum-told-2 : tie.Need-enum-told-2
+enum-told-2 c = search needs
+
+put-communities-requires : tie.Need-put-communities-requires
+put-communities-requires c κs = search needs
+
 same-length : tie.Need-same-length
 same-length c = search needs
 
@@ -62,12 +69,30 @@ unfolding operandMeaning
 returns-2 c = let d = c .before .before .before .before in
     rw (le-ltb textLimit (length (now (d .before .before .before .before .before .args .bytes))) (d .before .before .if1 .left), d .enum-told .given .1) (c .before .before .put-pattern-items .ensures)
 
+same-length-2 : tie.Need-same-length-2
+same-length-2 c = search needs
+
 returns-3 : tie.Need-returns-3
+unfolding operandMeaning
+returns-3 c = let d = c .before .before .before .before in
+    rw (le-ltb textLimit (length (now (d .before .before .before .before .before .args .bytes))) (d .before .before .if1 .left), d .enum-told2 .given .1) (c .before .before .put-communities .ensures)
+
+returns-4 : tie.Need-returns-4
 unfolding operandMeaning encodeAll
-returns-3 c = let a = c .before .before .before .before .args in
-    rw (le-ltb textLimit (length (now (a .bytes))) (c .before .if1 .left), others-bare (a .name) (c .match .keys2) (now (a .bytes))) (ends (starts _ _ [] (omega arith) (omega arith)))
+returns-4 c = let a = c .before .before .before .before .args in
+    rw (le-ltb textLimit (length (now (a .bytes))) (c .before .if1 .left), others-bare (a .name) (c .match .keys3) (now (a .bytes))) (ends (starts _ _ [] (omega arith) (omega arith)))
 
 pub put-items-spec : {M : Type 1} → statement M
 put-items-spec =
     tie.close
-    (tie.spec returns enum-told put-pattern-items-requires same-length returns-2 returns-3)
+    (tie.spec
+    returns
+    enum-told
+    put-pattern-items-requires
+    enum-told-2
+    put-communities-requires
+    same-length
+    returns-2
+    same-length-2
+    returns-3
+    returns-4)

@@ -6,8 +6,11 @@ use mathlib.Core.List.{[]}
 use denote.Ref.{now}
 use Rattle.octets.proofs.Writes.{starts, ends}
 use Rattle.program.specs.Layout.{encodeAll}
+use Rattle.operand.specs.declared.Name.the-variants.{Path as pathName}
+use Rattle.operand.specs.Tests.{meaning}
 use Rattle.operand.proofs.Blanks.{blanks-within}
-use Rattle.operand.proofs.PatternMeant.{none-follow, items-follow}
+use Rattle.operand.proofs.MeantFollows.{none-follow}
+use Rattle.operand.proofs.PatternMeant.{items-follow}
 use Rattle.operand.proofs.put_pattern_items.Statement.{statement}
 use Rattle.operand.proofs.put_pattern_items.Tie as tie
 
@@ -23,7 +26,7 @@ enum-told-2 c = search needs
 returns : tie.Need-returns
 unfolding encodeAll
 returns c = let a = c .before .before .before .before .before .args in
-    rw (none-follow (now (a .bytes)) (sym (c .enum-told2 .given .1) ∙ c .before .before .pattern .ensures)) (ends (starts _ _ [] (omega arith) (omega arith)))
+    rw (none-follow (meaning pathName (now (a .bytes))) (sym (c .enum-told2 .given .1) ∙ c .before .before .pattern .ensures)) (ends (starts _ _ [] (omega arith) (omega arith)))
 
 blanks-end-requires : tie.Need-blanks-end-requires
 blanks-end-requires c κs = search needs

@@ -11,7 +11,11 @@ returns c = search (needs, eq-eqb)
 
 returns-2 : tie.Need-returns-2
 unfolding followingIn
-returns-2 c = search (needs, ne-eqb)
+returns-2 c = search (needs, eq-eqb, ne-eqb)
+
+returns-3 : tie.Need-returns-3
+unfolding followingIn
+returns-3 c = search (needs, ne-eqb)
 
 pub following-spec : {M : Type 1} → statement M
-following-spec = tie.close (tie.spec returns returns-2)
+following-spec = tie.close (tie.spec returns returns-2 returns-3)

@@ -1,8 +1,5 @@
 -- `program::follows` meets its contract: what may follow are items. Assumes nothing.
-use Prim.Native.Nat.{ℕ}
-use mathlib.Core.Path.{ap, _∙_}
-use denote.Ref.{now}
-use Rattle.program.specs.Checks.{itemsStand, followsIn}
+use Rattle.program.specs.Checks.{followsIn}
 use borrow.Author.Needs.{needs}
 use Rattle.program.proofs.follows.Statement.{statement}
 use Rattle.program.proofs.follows.Tie as tie
@@ -13,13 +10,16 @@ following-requires c κs = search needs
 cast-items-stand : tie.Need-cast-items-stand
 cast-items-stand c = search needs
 
+last-item-requires : tie.Need-last-item-requires
+last-item-requires c κs = search needs
+
 items-stand-requires : tie.Need-items-stand-requires
 items-stand-requires c κs = search needs
 
 returns : tie.Need-returns
 unfolding followsIn
-returns c = c .items-stand .ensures ∙ ap (λ (n : ℕ). itemsStand n (now (c .before .before .before .args .records))) (c .before .following .ensures)
+returns c = rw (← c .before .before .following .ensures, ← c .before .last-item .ensures) (c .items-stand .ensures)
 
 pub follows-spec : {M : Type 1} → statement M
 follows-spec =
-    tie.close (tie.spec following-requires cast-items-stand items-stand-requires returns)
+    tie.close (tie.spec following-requires cast-items-stand last-item-requires items-stand-requires returns)

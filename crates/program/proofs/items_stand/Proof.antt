@@ -15,33 +15,33 @@ use Rattle.program.proofs.items_stand.Statement.{statement}
 use Rattle.program.proofs.items_stand.Tie as tie
 
 -- where one is due and no whole record stands
-none-stands : (n : ℕ) (l : List ℕ) → 1 ≤ n → length l ≤ recordSize - 1 → itemsStand n l ≡ false
+none-stands : (last n : ℕ) (l : List ℕ) → 1 ≤ n → length l ≤ recordSize - 1 → itemsStand last n l ≡ false
 unfolding itemsStand
-none-stands zero l h k = absurd (omega arith)
-none-stands (suc n) l h k = rw (lt-ltb (length l) recordSize (omega arith))
+none-stands last zero l h k = absurd (omega arith)
+none-stands last (suc n) l h k = rw (lt-ltb (length l) recordSize (omega arith))
 
 -- where one is due, and another record stands
-other-stands : (n : ℕ) (l : List ℕ) → 1 ≤ n → recordSize ≤ length l → isItem (fieldsIn l) ≡ false → itemsStand n l ≡ false
+other-stands : (last n : ℕ) (l : List ℕ) → 1 ≤ n → recordSize ≤ length l → isItem last (fieldsIn l) ≡ false → itemsStand last n l ≡ false
 unfolding itemsStand
-other-stands zero l h k e = absurd (omega arith)
-other-stands (suc n) l h k e = rw (le-ltb (length l) recordSize k, e)
+other-stands last zero l h k e = absurd (omega arith)
+other-stands last (suc n) l h k e = rw (le-ltb (length l) recordSize k, e)
 
 -- where one stands, those after it decide
-one-stands : (n : ℕ) (l : List ℕ) → 1 ≤ n → recordSize ≤ length l → isItem (fieldsIn l) ≡ true → itemsStand n l ≡ itemsStand (n - 1) (drop recordSize l)
+one-stands : (last n : ℕ) (l : List ℕ) → 1 ≤ n → recordSize ≤ length l → isItem last (fieldsIn l) ≡ true → itemsStand last n l ≡ itemsStand last (n - 1) (drop recordSize l)
 unfolding itemsStand
-one-stands zero l h k e = absurd (omega arith)
-one-stands (suc n) l h k e = rw (le-ltb (length l) recordSize k, e) (ap (λ (m : ℕ). itemsStand m (drop recordSize l)) {x = n} {y = suc n - 1} (omega arith))
+one-stands last zero l h k e = absurd (omega arith)
+one-stands last (suc n) l h k e = rw (le-ltb (length l) recordSize k, e) (ap (λ (m : ℕ). itemsStand last m (drop recordSize l)) {x = n} {y = suc n - 1} (omega arith))
 
-none-due : (n : ℕ) (l : List ℕ) → n ≡ 0 → itemsStand n l ≡ true
+none-due : (last n : ℕ) (l : List ℕ) → n ≡ 0 → itemsStand last n l ≡ true
 unfolding itemsStand
-none-due zero l e = refl
-none-due (suc n) l e = absurd (omega arith)
+none-due last zero l e = refl
+none-due last (suc n) l e = absurd (omega arith)
 
 abbrev Inv-loop : tie.InvT-loop
-Inv-loop records count at₀ left₀ at left = (at ≤ length records) × (itemsStand left (drop at records) ≡ itemsStand count records)
+Inv-loop records count last at₀ left₀ at left = (at ≤ length records) × (itemsStand last left (drop at records) ≡ itemsStand last count records)
 
 abbrev μ-loop : tie.MeasureT-loop
-μ-loop records count at₀ left₀ at left = left
+μ-loop records count last at₀ left₀ at left = left
 
 loop-holds : tie.Need-loop-holds Inv-loop μ-loop
 loop-holds c = (omega arith, refl)
@@ -53,7 +53,7 @@ returns : tie.Need-returns Inv-loop μ-loop
 returns c =
     let s = now (c .before .before .before .before .args .records) in
     let l = c .before .before .loop in
-    sym (none-stands (l .left) (drop (l .at) s) (omega arith) (simp length-drop (omega arith))) ∙ l .inv .1
+    sym (none-stands _ (l .left) (drop (l .at) s) (omega arith) (simp length-drop (omega arith))) ∙ l .inv .1
 
 fields-at-requires : tie.Need-fields-at-requires Inv-loop μ-loop
 fields-at-requires c κs = tt
@@ -65,8 +65,8 @@ returns-2 : tie.Need-returns-2 Inv-loop μ-loop
 returns-2 c =
     let s = now (c .before .before .before .before .before .before .before .args .records) in
     let l = c .before .before .before .before .before .loop in
-    let e = refused _ (c .before .holds-item .ensures ∙ ap isItem (c .before .before .fields-at .ensures)) (c .if2 .taken) in
-    sym (other-stands (l .left) (drop (l .at) s) (omega arith) (simp length-drop (omega arith)) e) ∙ l .inv .1
+    let e = refused _ (c .before .holds-item .ensures ∙ ap (isItem _) (c .before .before .fields-at .ensures)) (c .if2 .taken) in
+    sym (other-stands _ (l .left) (drop (l .at) s) (omega arith) (simp length-drop (omega arith)) e) ∙ l .inv .1
 
 add-at : tie.Need-add-at Inv-loop μ-loop
 add-at c = omega arith
@@ -81,13 +81,13 @@ loop-again : tie.Need-loop-again Inv-loop μ-loop
 loop-again c =
     let s = now (c .before .before .before .before .before .before .before .args .records) in
     let l = c .before .before .before .before .before .loop in
-    let e = passed _ (c .before .holds-item .ensures ∙ ap isItem (c .before .before .fields-at .ensures)) (c .if2 .left) in
-    (omega arith, rw (← drop-drop recordSize (l .at) s) (sym (one-stands (l .left) (drop (l .at) s) (omega arith) (simp length-drop (omega arith)) e) ∙ l .inv .1))
+    let e = passed _ (c .before .holds-item .ensures ∙ ap (isItem _) (c .before .before .fields-at .ensures)) (c .if2 .left) in
+    (omega arith, rw (← drop-drop recordSize (l .at) s) (sym (one-stands _ (l .left) (drop (l .at) s) (omega arith) (simp length-drop (omega arith)) e) ∙ l .inv .1))
 
 returns-3 : tie.Need-returns-3 Inv-loop μ-loop
 returns-3 c =
     let l = c .before .loop in
-    sym (none-due (l .left) (drop (l .at) (now (c .before .before .before .args .records))) (omega arith)) ∙ l .inv .1
+    sym (none-due _ (l .left) (drop (l .at) (now (c .before .before .before .args .records))) (omega arith)) ∙ l .inv .1
 
 pub items-stand-spec : {M : Type 1} → statement M
 items-stand-spec =

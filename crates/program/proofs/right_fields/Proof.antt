@@ -41,6 +41,9 @@ right-pass-requires c κs = search needs
 right-pass-requires-2 : tie.Need-right-pass-requires-2
 right-pass-requires-2 c κs = search needs
 
+right-communities-requires : tie.Need-right-communities-requires
+right-communities-requires c κs = search needs
+
 returns : tie.Need-returns
 unfolding rightFields
 returns c = rw (c .before .match .keys1) (search needs)
@@ -91,8 +94,13 @@ returns-12 c = rw (c .before .match .keys12) (search needs)
 
 returns-13 : tie.Need-returns-13
 unfolding rightFields
-returns-13 c =
+returns-13 c = rw (c .before .match .keys13) (search needs)
+
+returns-14 : tie.Need-returns-14
+unfolding rightFields
+returns-14 c =
     simp (
+      ne-eqb _ _ (c .match .rest .0 .0 .0 .0 .0 .0 .0 .0 .0 .0 .0 .0 .1),
       ne-eqb _ _ (c .match .rest .0 .0 .0 .0 .0 .0 .0 .0 .0 .0 .0 .1),
       ne-eqb _ _ (c .match .rest .0 .0 .0 .0 .0 .0 .0 .0 .0 .0 .1),
       ne-eqb _ _ (c .match .rest .0 .0 .0 .0 .0 .0 .0 .0 .0 .1),
@@ -123,6 +131,7 @@ right-fields-spec =
     right-bare-requires-3
     right-pass-requires
     right-pass-requires-2
+    right-communities-requires
     returns
     returns-2
     returns-3
@@ -135,4 +144,5 @@ right-fields-spec =
     returns-10
     returns-11
     returns-12
-    returns-13)
+    returns-13
+    returns-14)

@@ -6,18 +6,16 @@ use mathlib.Core.List.{List}
 use lib.ListN.{drop}
 use denote.Ref.{now}
 use borrow.Author.Needs.{needs}
-use Rattle.program.specs.Checks.{itemsStand, followingIn, followsIn}
+use Rattle.program.specs.Checks.{itemsStand, followingIn, lastItem, followsIn}
 use Rattle.program.proofs.Answers.{refused, passed}
 use Rattle.program.proofs.test_size.Statement.{statement}
 use Rattle.program.proofs.test_size.Tie as tie
 
 -- whether so many items stand at the place
-found : (k : tie.After-items-stand) → let a = k .before .before .before .before .before .args in
-    k .items-stand .result ≡ itemsStand (followingIn (a .f)) (drop (a .next) (now (a .program)))
+found : (k : tie.After-items-stand) → let a = k .before .before .before .before .before .before .args in
+    k .items-stand .result ≡ itemsStand (lastItem (a .f)) (followingIn (a .f)) (drop (a .next) (now (a .program)))
 found k =
-    k .items-stand .ensures
-    ∙ ap (itemsStand _) (k .before .rest .ensures)
-    ∙ ap (λ (n : ℕ). itemsStand n (drop (k .before .before .before .before .before .args .next) (now (k .before .before .before .before .before .args .program)))) (k .before .before .before .following .ensures)
+    rw (← k .before .before .before .before .following .ensures, ← k .before .last-item .ensures, ← k .before .before .rest .ensures) (k .items-stand .ensures)
 
 following-requires : tie.Need-following-requires
 following-requires c κs = search needs
@@ -31,6 +29,9 @@ returns c = rw (← c .before .following .ensures, c .if1 .taken) refl
 
 rest-requires : tie.Need-rest-requires
 rest-requires c κs = search needs
+
+last-item-requires : tie.Need-last-item-requires
+last-item-requires c κs = search needs
 
 items-stand-requires : tie.Need-items-stand-requires
 items-stand-requires c κs = search needs
@@ -47,7 +48,7 @@ add-result c = search needs
 
 returns-3 : tie.Need-returns-3
 unfolding followsIn
-returns-3 c = rw (passed _ (found (c .before)) (c .if2 .left), ← c .before .before .before .before .following .ensures) refl
+returns-3 c = rw (passed _ (found (c .before)) (c .if2 .left), ← c .before .before .before .before .before .following .ensures) refl
 
 pub test-size-spec : {M : Type 1} → statement M
 test-size-spec =
@@ -57,6 +58,7 @@ test-size-spec =
     cast-count
     returns
     rest-requires
+    last-item-requires
     items-stand-requires
     returns-2
     mul-result

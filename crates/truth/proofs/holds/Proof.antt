@@ -2,7 +2,7 @@
 use mathlib.Core.Path.{sym, _∙_}
 use denote.Ref.{now}
 use borrow.Author.Needs.{needs}
-use Rattle.truth.proofs.TruthReads.{type-true, peer-true, time-true, other-true, network-true, attribute-true, path-true}
+use Rattle.truth.proofs.TruthReads.{type-true, peer-true, time-true, other-true, network-true, attribute-true, communities-true, path-true}
 use Rattle.truth.proofs.holds.Statement.{statement}
 use Rattle.truth.proofs.holds.Tie as tie
 
@@ -49,13 +49,22 @@ rest-requires c κs = search needs
 rest-requires-2 : tie.Need-rest-requires-2
 rest-requires-2 c κs = search needs
 
+has-communities-requires : tie.Need-has-communities-requires
+has-communities-requires c κs = search needs
+
+returns-7 : tie.Need-returns-7
+returns-7 c = let a = c .before .before .before .before .before .before .before .before .before .before .before .before .before .before .before .before .before .before .before .before .before .args in
+    let e = communities-true (now (a .«record»)) (a .parts) (now (a .program)) (a .at) (c .before .before .before .before .before .before .before .before .before .before .before .before .before .before .before .before .before .before .fields-at .ensures) (c .before .before .before .before .before .before .before .before .before .before .if4 .left) (c .before .if7 .taken) in
+    rw (e, ← c .before .before .before .before .rest .ensures, ← c .before .before .before .rest2 .ensures, ← c .before .before .before .before .before .before .before .part-of .ensures) (c .has-communities .ensures)
+
 true-of-section-requires : tie.Need-true-of-section-requires
 true-of-section-requires c κs = search needs
 
-returns-7 : tie.Need-returns-7
-returns-7 c = let a = c .before .before .before .before .before .before .before .before .before .before .before .before .before .before .before .before .before .before .before .args in
-    let e = path-true (now (a .«record»)) (a .parts) (now (a .program)) (a .at) (c .before .before .before .before .before .before .before .before .before .before .before .before .before .before .before .before .fields-at .ensures) (c .before .before .before .before .before .before .before .before .if4 .left) (c .before .before .before .before .before .before .before .before .before .before .before .before .before .before .if1 .left) (c .before .before .before .if6 .left) (c .before .before .before .before .before .before .before .before .before .before .before .before .if2 .left) (c .before .before .before .before .before .before .if5 .left) (c .before .before .before .before .before .before .before .before .before .before .if3 .left) in
-    rw (e, ← c .before .before .rest .ensures, ← c .before .rest2 .ensures, ← c .before .before .before .before .before .part-of .ensures) (c .true-of-section .ensures)
+returns-8 : tie.Need-returns-8
+returns-8 c = let a = c .before .before .before .before .before .before .before .before .before .before .before .before .before .before .before .before .before .before .before .before .before .args in
+    let e = path-true (now (a .«record»)) (a .parts) (now (a .program)) (a .at) (c .before .before .before .before .before .before .before .before .before .before .before .before .before .before .before .before .before .before .fields-at .ensures) (c .before .before .before .before .before .before .before .before .before .before .if4 .left) (c .before .before .before .before .before .before .before .before .before .before .before .before .before .before .before .before .if1 .left) (c .before .before .before .before .before .if6 .left) (c .before .before .before .before .before .before .before .before .before .before .before .before .before .before .if2 .left)
+    (c .before .before .before .before .before .before .before .before .if5 .left) (c .before .before .before .before .before .before .before .before .before .before .before .before .if3 .left) (c .before .if7 .left) in
+    rw (e, ← c .before .before .before .before .rest .ensures, ← c .before .before .before .rest2 .ensures, ← c .before .before .before .before .before .before .before .part-of .ensures) (c .true-of-section .ensures)
 
 pub holds-spec : {M : Type 1} → statement M
 holds-spec =
@@ -75,5 +84,7 @@ holds-spec =
     returns-6
     rest-requires
     rest-requires-2
+    has-communities-requires
+    returns-7
     true-of-section-requires
-    returns-7)
+    returns-8)

@@ -12,17 +12,18 @@ use Rattle.aspath.specs.Members.{Member}
 use Rattle.aspath.specs.Wire.{widthBytes, membersOf}
 use Rattle.aspath.specs.Patterns.{matches}
 use Rattle.aspath.proofs.Cursors.{whole-path}
-use Rattle.program.specs.Checks.{itemsStand, followsIn}
+use Rattle.program.specs.Checks.{lastVariant, itemsStand}
 use Rattle.program.proofs.Answers.{refused, passed}
 use Rattle.truth.specs.Matching.{itemsIn, patternOf, pathMatches}
+use Rattle.truth.proofs.ItemReads.{path-stands}
 use Rattle.truth.proofs.PathReads.{at-members, pinned, free}
 use Rattle.truth.proofs.matches.Statement.{statement}
 use Rattle.truth.proofs.matches.Tie as tie
 
 -- as many items as follow stand behind the record
-stand : (k : tie.After-following) → itemsStand (k .following .result) (now (k .before .before .before .before .before .before .before .args .behind)) ≡ true
-unfolding followsIn
-stand k = rw (k .following .ensures) (passed _ (k .before .before .follows .ensures) (k .before .if2 .left))
+stand : (k : tie.After-following) → itemsStand lastVariant (k .following .result) (now (k .before .before .before .before .before .before .before .args .behind)) ≡ true
+stand k = let a = k .before .before .before .before .before .before .before in
+    rw (k .following .ensures) (sym (path-stands (a .args .f) (now (a .args .behind)) (a .pre)) ∙ passed _ (k .before .before .follows .ensures) (k .before .if2 .left))
 
 -- so whether they match is what is left
 told : (k : tie.After-following) (path : List Member) → let a = k .before .before .before .before .before .before .before .args in

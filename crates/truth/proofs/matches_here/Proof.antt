@@ -14,10 +14,11 @@ use Rattle.aspath.specs.declared.Next.the-variants.{Member}
 use Rattle.aspath.specs.Wire.{widthBytes}
 use Rattle.aspath.specs.Cursors.{nextAt}
 use Rattle.program.specs.Layout.{recordSize}
-use Rattle.program.specs.Checks.{itemsStand}
+use Rattle.program.specs.Checks.{lastVariant, itemsStand}
 use Rattle.program.proofs.Answers.{refused, passed}
 use Rattle.truth.specs.Matching.{itemsIn, matchesAt}
-use Rattle.truth.proofs.ItemReads.{one-item, items-none, Next, next}
+use Rattle.truth.specs.Records.{itemOf}
+use Rattle.truth.proofs.ItemReads.{finds-items, one-read, each-none, Next, next}
 use Rattle.truth.proofs.PathReads.{at-last, at-none, at-end, at-other, at-next}
 use Rattle.truth.proofs.matches_here.Statement.{statement}
 use Rattle.truth.proofs.matches_here.Tie as tie
@@ -25,7 +26,7 @@ use Rattle.truth.proofs.matches_here.Tie as tie
 abbrev Inv-loop : tie.InvT-loop
 Inv-loop records count end path width c₀ at₀ left₀ c at left =
     (at ≤ length records)
-    × (itemsStand left (drop at records) ≡ true)
+    × (itemsStand lastVariant left (drop at records) ≡ true)
     × (matchesAt end (itemsIn left (drop at records)) (widthBytes width) path c ≡ matchesAt end (itemsIn count records) (widthBytes width) path c₀)
 
 abbrev μ-loop : tie.MeasureT-loop
@@ -39,8 +40,8 @@ abbrev items : tie.At-loop Inv-loop μ-loop → List Item
 items b = itemsIn (b .loop .left) (rest b)
 
 -- the item at the loop's place
-here : (k : tie.In-loop Inv-loop μ-loop) → let b = k .before in Next (b .loop .left) (b .loop .left - 1) (rest b)
-here k = let b = k .before in next (b .loop .left - 1) (rest b) (omega arith) (b .loop .inv .1)
+here : (k : tie.In-loop Inv-loop μ-loop) → let b = k .before in Next itemOf lastVariant (b .loop .left) (b .loop .left - 1) (rest b)
+here k = let b = k .before in next finds-items (b .loop .left - 1) (rest b) (omega arith) (b .loop .inv .1)
 
 -- whether all match is whether those left do
 whole : (b : tie.At-loop Inv-loop μ-loop) {is : List Item} → let a = b .before .before .before .args in
@@ -52,13 +53,13 @@ whole b e = let a = b .before .before .before .args in
 
 -- no item is left
 none : (b : tie.At-loop Inv-loop μ-loop) → b .loop .left ≡ 0 → items b ≡ []
-none b z = ap (λ (n : ℕ). itemsIn n (rest b)) z ∙ items-none (rest b)
+none b z = ap (λ (n : ℕ). itemsIn n (rest b)) z ∙ each-none itemOf (rest b)
 
 -- the item read, and those after it
 stands : (k : tie.After-takes Inv-loop μ-loop) → let b = k .before .before .before .before .before .before .before in
     items b ≡ k .before .item-at .result ∷ itemsIn (b .loop .left - 1) (drop recordSize (rest b))
 stands k = let h = here (k .before .before .before .before .before .before) in
-    h .items ∙ rw (one-item (sym (h .decoded) ∙ k .before .item-at .ensures)) refl
+    h .all ∙ rw (one-read itemOf (h .decoded) (k .before .item-at .ensures) refl) refl
 
 -- the member read
 met : (k : tie.After-takes Inv-loop μ-loop) → let b = k .before .before .before .before .before .before .before in let a = b .before .before .before .args in
@@ -81,7 +82,7 @@ returns : tie.Need-returns Inv-loop μ-loop
 returns c = let k = c .before .before .before in
     let a = k .before .before .before .before .args in
     let e = sym (c .before .before .member-at .ensures) ∙ c .enum-told .given .1 in
-    sym (whole (k .before) (here k .items) ∙ at-end (a .end) (widthBytes (a .width)) (now (a .path)) _ _ _ e)
+    sym (whole (k .before) (here k .all) ∙ at-end (a .end) (widthBytes (a .width)) (now (a .path)) _ _ _ e)
 
 item-at-requires : tie.Need-item-at-requires Inv-loop μ-loop
 item-at-requires c κs = here (c .before .before .before .before) .is-item

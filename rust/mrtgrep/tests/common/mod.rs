@@ -410,12 +410,13 @@ pub fn mixed() -> Mixed {
     mixed
 }
 
-/// The example filters, with the records of `examples/updates.mrt` that `tests/independent.py` keeps with each.
-pub const EXAMPLES: [(&str, usize); 6] = [
+/// The example filters, with the records of their dumps that `tests/independent.py` keeps with each.
+pub const EXAMPLES: [(&str, usize); 7] = [
     ("bogons", 1),
     ("hijack", 1),
     ("loops", 9),
     ("more-specifics", 7),
+    ("tags", 3),
     ("window", 10),
     ("withdrawals", 4),
 ];
@@ -425,4 +426,14 @@ pub fn example(name: &str) -> (String, Vec<u8>) {
     let filter = path(&format!("examples/{name}.filter"));
     let lines = stored(&format!("examples/{name}.lines"));
     (filter.to_str().unwrap().to_owned(), lines)
+}
+
+/// The name of the dump that an example is run on.
+pub fn dump(name: &str) -> String {
+    let table = stored_text("examples/dumps.tsv");
+    let dump = table
+        .lines()
+        .find_map(|row| row.strip_prefix(&format!("{name}.filter\t")))
+        .unwrap_or_else(|| panic!("examples/dumps.tsv has no {name}.filter"));
+    format!("examples/{dump}")
 }

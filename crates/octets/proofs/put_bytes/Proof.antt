@@ -1,4 +1,4 @@
--- `grainlantern::put_bytes` meets its contract. The loop's invariant: the bytes from `i` on are left to write. Assumes nothing.
+-- `octets::put_bytes` meets its contract. The loop's invariant: the bytes from `i` on are left to write. Assumes nothing.
 use Prim.Native.Nat.{_+_, _-_, _≤_}
 use native.Mathlib.Omega.{arith}
 use mathlib.Core.List.{[], _∷_}
@@ -7,9 +7,9 @@ use lib.ListN.{length, getD, drop, drop-of-length-le}
 use lib.Seq.{drop-cons}
 use native.Mathlib.Numerals.{add-one}
 use borrow.Author.Needs.{needs}
 use Rattle.octets.proofs.Writes.{Midst, starts, moves, ends}
-use Rattle.grainlantern.proofs.put_bytes.Statement.{statement}
-use Rattle.grainlantern.proofs.put_bytes.Tie as tie
+use Rattle.octets.proofs.put_bytes.Statement.{statement}
+use Rattle.octets.proofs.put_bytes.Tie as tie
 
 abbrev Inv-loop : tie.InvT-loop
 Inv-loop out₀ at bytes place₀ i₀ out place i = (i ≤ length bytes) × Midst out₀ at bytes out place (drop i bytes)
