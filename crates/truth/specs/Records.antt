@@ -37,13 +37,14 @@ unfoldable pub eachOf : {A : Type 0} → (Record → Option A) → List Record �
 eachOf one [] = some []
 eachOf one (r ∷ rs) = onward (one r) (λ a. onward (eachOf one rs) (λ xs. some (a ∷ xs)))
 
--- a path is true if items follow it, as many as it counts, and the pattern of these is; communities are if numbers follow, as many as counted, and the
--- test of these is
+-- a path is true if items follow it, as many as it counts, and the pattern of these is; communities are if numbers follow, as many as
+-- counted, and the test of these is
 unfoldable pub recordTruth : Message → Head → List Record → Bool
 recordTruth m (type code) following = isTrue m (typeIs code)
 recordTruth m (attribute code) following = isTrue m (hasAttribute code)
 recordTruth m (path start end count) following =
-    ifAny (eachOf itemOf following) (λ items. both (eqb (length items) count) (isTrue m (pathMatches (record { start = start; items = items; end = end }))))
+    ifAny (eachOf itemOf following)
+    (λ items. both (eqb (length items) count) (isTrue m (pathMatches (record { start = start; items = items; end = end }))))
 recordTruth m (peer p) following = isTrue m (peerIs p)
 recordTruth m loops following = isTrue m hasLoop
 recordTruth m bogon following = isTrue m hasBogon
