@@ -8,7 +8,7 @@ use mathlib.Core.List.{List, [], ◌∷◌, ◌++◌}
 use lib.ListN.{length, get_or, drop}
 use lib.Seq.{drop-cons}
 use Rattle.octets.specs.Choice.{pick}
-use Rattle.octets.specs.Lists.{Every, every_more, Some, some_here, some_there, At, at_here, at_there, some_passes}
+use Rattle.octets.specs.Lists.{Every, every_none, every_more, Some, some_here, some_there, At, at_here, at_there, some_passes}
 use Rattle.octets.proofs.Choices.{never, either, second}
 
 module _ {A : Type 0} {P : A → Type 0} where
@@ -29,6 +29,7 @@ module _ {A : Type 0} {P : A → Type 0} where
 
   -- where each member is as Q says, some member is as both say
   pub some_of_every : {Q : A → Type 0} {xs : List A} → Every Q xs → Some P xs → Some (λ (a : A). P a × Q a) xs
+  some_of_every every_none s = elim s [ ]
   some_of_every (every_more q qs) (some_here p) = some_here (p, q)
   some_of_every (every_more q qs) (some_there s) = some_there (some_of_every qs s)
 
@@ -39,7 +40,7 @@ module _ {A : Type 0} {test : A → Bool} {P : A → Type 0} where
   pub passes_sound : ((a : A) → test a ≡ true → P a) → {xs : List A} → some_passes test xs ≡ true → Some P xs
   unfolding some_passes
   passes_sound f {xs = []} e = never e
-  passes_sound f {xs = a ∷ xs} e = go (passes_sound f)
+  passes_sound f {xs = a ∷ xs} e = go (passes_sound f {xs = xs})
     where
       go : (some_passes test xs ≡ true → Some P xs) → Some P (a ∷ xs)
       go ih = either (test a) (some_passes test xs) e (λ h. some_here (f a h)) (λ h. some_there (ih h))

@@ -1,4 +1,6 @@
 // Bytes: big-endian numbers, parts, whether two are the same, clipped writes and decimal digits. Every function takes any slice and any place.
+#![tactic(auto)]
+
 ghost use Rattle.std.specs.Prelude.{◌≡◌, [], ◌∷◌, get_or, drop, ◌<◌, leb};
 ghost use Rattle.octets.specs.Choice.{pick};
 ghost use Rattle.octets.specs.Equal.{same};
