@@ -11,7 +11,7 @@ const FIRST_PRINTED: u8 = 0x20;
 const LAST_PRINTED: u8 = 0x7E;
 
 // What stands at a place: nothing up to the end, a token, or a quote that isn't closed.
-#[derive(Drop)]
+#[derive(Clone, Copy)]
 pub enum Sort {
     End,
     Open,
@@ -23,7 +23,7 @@ pub enum Sort {
 }
 
 // A sort, the place of its first byte and the place behind its last.
-#[derive(Drop)]
+#[derive(Clone, Copy)]
 pub struct Lexeme {
     pub sort: Sort,
     pub start: usize,
@@ -31,7 +31,7 @@ pub struct Lexeme {
 }
 
 // Bytes that are passed over together, up to the first that is none of them.
-#[derive(Drop)]
+#[derive(Clone, Copy)]
 enum Run {
     Blanks,
     Letters,
