@@ -4,14 +4,14 @@ ghost use Rattle.bogons.specs.Bogons.{is_bogon};
 ghost use Rattle.bogons.specs.Search.{after, pair_holds, bogon_search, most_comparisons};
 
 // A range of AS numbers.
-#[derive(Drop)]
+#[derive(Clone, Copy)]
 pub struct Range {
     pub low: u32,
     pub high: u32,
 }
 
 // What a search of a table told: whether some range holds the number, and how often the number was compared with a bound.
-#[derive(Drop)]
+#[derive(Clone, Copy)]
 pub struct Lookup {
     pub found: bool,
     pub comparisons: usize,

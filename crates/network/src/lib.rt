@@ -12,14 +12,14 @@ pub const ADDRESS_SIZE: usize = 4;
 
 const LONGEST_PREFIX: usize = ADDRESS_BITS as usize;
 
-#[derive(Drop)]
+#[derive(Clone, Copy)]
 pub struct Network {
     pub address: u32,
     pub len: u32,
 }
 
 // How a prefix of a message stands to an operand: the same network, one that covers it, one that it covers, or either.
-#[derive(Drop)]
+#[derive(Clone, Copy)]
 pub enum Relation {
     Exact,
     Supernet,
