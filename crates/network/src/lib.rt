@@ -1,4 +1,6 @@
 // IPv4 networks: from the wire, covering, text.
+#![tactic(auto)]
+
 ghost use Rattle.std.specs.Prelude.{◌≡◌, drop};
 ghost use Rattle.octets.specs.Rows.{whole};
 ghost use Rattle.octets.specs.Writes.{Written};
@@ -12,7 +14,7 @@ pub const ADDRESS_SIZE: usize = 4;
 
 const LONGEST_PREFIX: usize = ADDRESS_BITS as usize;
 
-#[derive(Drop)]
+#[derive(Clone, Copy)]
 pub struct Network {
     pub address: u32,
     pub len: u32,
