@@ -1,4 +1,6 @@
 // Tokens of a text: the next one from a place on, its bytes, where blanks end, the first forbidden byte and the quote that isn't closed.
+#![tactic(auto)]
+
 ghost use Rattle.std.specs.Prelude.{◌≡◌, ◌+◌, ◌-◌, ◌<◌, length};
 ghost use Rattle.token.specs.Texts.{allowed};
 ghost use Rattle.token.specs.Next.{is_blank, is_letter, is_in, run_end, lexeme, quote_at, start_at, next_at, part, bytes_in, allowed_front, unclosed_at};
