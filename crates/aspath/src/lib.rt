@@ -22,28 +22,28 @@ const TWO_OCTETS: usize = 2;
 const FOUR_OCTETS: usize = 4;
 
 // The width of an AS number.
-#[derive(Drop)]
+#[derive(Clone, Copy)]
 pub enum Width {
     Two,
     Four,
 }
 
 // A place in a body: at is the next byte, left the numbers left in the segment.
-#[derive(Drop)]
+#[derive(Clone, Copy)]
 pub struct Cursor {
     pub at: usize,
     pub left: usize,
 }
 
 // What stands at a cursor: a member of the path with the cursor after it, or nothing more.
-#[derive(Drop)]
+#[derive(Clone, Copy)]
 pub enum Next {
     Member(u32, Cursor),
     End,
 }
 
 // An item behind a test's record: a number, any number but it, any at all.
-#[derive(Drop)]
+#[derive(Clone, Copy)]
 pub enum Item {
     Number(u32),
     Other(u32),

@@ -39,7 +39,7 @@ const TYPE_SIZE: usize = 2;
 const CODE_AT: usize = 1;
 
 // Where the body of an attribute stands in its section.
-#[derive(Drop)]
+#[derive(Clone, Copy)]
 pub enum Found {
     At { start: usize, len: usize },
     Absent,

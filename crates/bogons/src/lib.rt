@@ -13,7 +13,7 @@ pub struct Range {
 }
 
 // What a search of a table told: whether some range holds the number, and how often the number was compared with a bound.
-#[derive(Drop)]
+#[derive(Clone, Copy)]
 pub struct Lookup {
     pub found: bool,
     pub comparisons: usize,

@@ -7,14 +7,14 @@ use filter::{Compiled, Refusal};
 use judge::{Judged, Tally};
 
 // A tally to count in, or none.
-#[derive(Drop)]
+#[derive(Clone, Copy)]
 pub enum Counting {
     Without,
     With(Tally),
 }
 
 // What compiling a text, and judging a record with its program, answer.
-#[derive(Drop)]
+#[derive(Clone, Copy)]
 pub enum Answer {
     // The text compiles to so many bytes, and the record is judged with these.
     Judged { bytes: usize, judged: Judged },
@@ -23,14 +23,14 @@ pub enum Answer {
 }
 
 // An answer, and the tally after it.
-#[derive(Drop)]
+#[derive(Clone, Copy)]
 pub struct Answered {
     pub answer: Answer,
     pub counting: Counting,
 }
 
 // What judging answers, and the tally after it.
-#[derive(Drop)]
+#[derive(Clone, Copy)]
 struct JudgedCounting {
     judged: Judged,
     counting: Counting,

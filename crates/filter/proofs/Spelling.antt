@@ -77,7 +77,7 @@ wordly_letter b w = record { no_blank = by_blank w; no_mark = by_mark w; no_quot
 
 -- a space ends a word
 pub space_stops : {bs : List ℕ} → Stops (32 ∷ bs)
-space_stops = before (λ l. l.no-blank space)
+space_stops = before (λ l. l.no_blank space)
 
 -- a space before what is written with tokens
 spaced : {m : ℕ} (n : ℕ) {bs : List ℕ} {ts : List Placed} → m ≡ suc n → Lexes m bs ts → Lexes n (32 ∷ bs) ts

@@ -21,7 +21,7 @@ use token::{Lexeme, Sort};
 const LEVEL_LIMIT: usize = 32;
 
 // Why a text isn't compiled, in the order of the table.
-#[derive(Drop)]
+#[derive(Clone, Copy)]
 pub enum Refusal {
     Length,
     Byte,
@@ -34,14 +34,14 @@ pub enum Refusal {
 }
 
 // The bytes of the program; or the refusal and its place.
-#[derive(Drop)]
+#[derive(Clone, Copy)]
 pub enum Compiled {
     Program(usize),
     Refused(Refusal, usize),
 }
 
 // What a word says.
-#[derive(Drop)]
+#[derive(Clone, Copy)]
 enum Role {
     And,
     Or,
@@ -52,7 +52,7 @@ enum Role {
 }
 
 // The token behind a part, and where its records end in the program; or why it is refused, and where.
-#[derive(Drop)]
+#[derive(Clone, Copy)]
 enum Parsed {
     Upto { next: Lexeme, n: usize },
     Refused { refusal: Refusal, place: usize },

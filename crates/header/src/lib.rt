@@ -1,3 +1,5 @@
+#![tactic(auto)]
+
 // The header of an MRT record (RFC 6396, section 2): where its fields stand, and their bytes.
 pub const SECONDS_AT: usize = 0;
 

@@ -23,7 +23,7 @@ const FULL_COUNT: u32 = 4294967295;
 
 // Counts of the records that were judged. A caller in C lends one.
 #[repr(C)]
-#[derive(Drop)]
+#[derive(Clone, Copy)]
 pub struct Tally {
     pub seen: u32,
     pub kept: u32,
@@ -32,7 +32,7 @@ pub struct Tally {
 }
 
 // Why a record isn't judged, or its lines aren't written.
-#[derive(Drop)]
+#[derive(Clone, Copy)]
 pub enum Refusal {
     Program,
     Count,
@@ -40,7 +40,7 @@ pub enum Refusal {
     Lines,
 }
 
-#[derive(Drop)]
+#[derive(Clone, Copy)]
 pub enum Judged {
     Kept { spent: Spent, bytes: usize },
     Dropped { spent: Spent },
@@ -48,14 +48,14 @@ pub enum Judged {
 }
 
 // An answer, and the tally after it.
-#[derive(Drop)]
+#[derive(Clone, Copy)]
 pub struct Counted {
     pub judged: Judged,
     pub tally: Tally,
 }
 
 // The machine between two records: the place of the next one, the flag and what is spent so far.
-#[derive(Drop)]
+#[derive(Clone, Copy)]
 struct MachineState {
     at: usize,
     flag: bool,

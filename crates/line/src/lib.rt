@@ -19,7 +19,7 @@ use message::{MESSAGE_LIMIT, Parts};
 pub const LINE_ROOM: usize = 65536;
 
 // The bytes that the lines take, or that the buffer is too short for them.
-#[derive(Drop)]
+#[derive(Clone, Copy)]
 pub enum Wrote {
     Bytes(usize),
     Short,

@@ -57,14 +57,14 @@ const SECTION_LENGTH: usize = 2;
 const SECTION_LENGTHS: usize = 2 * SECTION_LENGTH;
 
 // Where a part stands in its record.
-#[derive(Drop)]
+#[derive(Clone, Copy)]
 pub struct Part {
     pub start: usize,
     pub len: usize,
 }
 
 // A message's numbers, and where its sections stand.
-#[derive(Drop)]
+#[derive(Clone, Copy)]
 pub struct Parts {
     pub seconds: u32,
     pub width: Width,
@@ -77,7 +77,7 @@ pub struct Parts {
 }
 
 // Why a record isn't read, in the order of the table.
-#[derive(Drop)]
+#[derive(Clone, Copy)]
 pub enum Refusal {
     Size,
     MrtType,
@@ -89,7 +89,7 @@ pub enum Refusal {
     Prefix,
 }
 
-#[derive(Drop)]
+#[derive(Clone, Copy)]
 pub enum Decoded {
     Read(Parts),
     Refused(Refusal),

@@ -52,6 +52,7 @@ module _ {A : Type 0} where
 
   -- what holds of each row holds of each word and its value
   pub in_each : (P : List ℕ → A → Type 0) {rows : List (Row A)} → Every (λ (r : Row A). P r.word r.value) rows → {w : List ℕ} {a : A} → In rows w a → P w a
+  in_each P every_none x = elim x [ ]
   in_each P (every_more p ps) here = p
   in_each P (every_more p ps) (there x) = in_each P ps x
 

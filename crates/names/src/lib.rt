@@ -1,4 +1,6 @@
 // Names of message types and of attributes: the code of each.
+#![tactic(auto)]
+
 ghost use Rattle.std.specs.Prelude.{◌≡◌, drop};
 ghost use Rattle.names.specs.Tables.{found};
 ghost use Rattle.names.specs.Names.{type_names, attribute_names, named_code};

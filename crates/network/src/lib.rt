@@ -21,7 +21,7 @@ pub struct Network {
 }
 
 // How a prefix of a message stands to an operand: the same network, one that covers it, one that it covers, or either.
-#[derive(Drop)]
+#[derive(Clone, Copy)]
 pub enum Relation {
     Exact,
     Supernet,

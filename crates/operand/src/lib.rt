@@ -50,7 +50,7 @@ const LESS: u32 = b'<' as u32;
 const GREATER: u32 = b'>' as u32;
 
 // The tests that have an operand.
-#[derive(Drop)]
+#[derive(Clone, Copy)]
 pub enum Name {
     MessageType,
     Attribute,
@@ -62,49 +62,49 @@ pub enum Name {
 }
 
 // The head of a test and how many records follow it, or that its operand breaks the test's rule.
-#[derive(Drop)]
+#[derive(Clone, Copy)]
 pub enum Meant {
     Head { fields: Fields, following: u32 },
     Broken,
 }
 
 // A number and the place behind it.
-#[derive(Drop)]
+#[derive(Clone, Copy)]
 enum Number {
     Read { value: u32, end: usize },
     Missing,
 }
 
 // An address and the place behind it.
-#[derive(Drop)]
+#[derive(Clone, Copy)]
 enum AddressRead {
     Read { address: u32, end: usize },
     Missing,
 }
 
 // What is listed in an operand, a record each.
-#[derive(Drop)]
+#[derive(Clone, Copy)]
 enum Listed {
     Items,
     Communities,
 }
 
 // An item, a pattern's or a community, and the place after it; or that none stands there.
-#[derive(Drop)]
+#[derive(Clone, Copy)]
 enum ItemRead {
     Read { item: Item, end: usize },
     Missing,
 }
 
 // How many items there are, and where they and the blanks behind them end.
-#[derive(Drop)]
+#[derive(Clone, Copy)]
 struct Items {
     count: u32,
     end: usize,
 }
 
 // A comparison's code and the place behind it.
-#[derive(Drop)]
+#[derive(Clone, Copy)]
 struct Sign {
     code: u32,
     end: usize,

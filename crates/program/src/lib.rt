@@ -66,7 +66,7 @@ const LAST_SIDE: u32 = 2;
 const LAST_COMPARISON: u32 = 4;
 
 // The fields of a record: kind, variant, count, A and B.
-#[derive(Drop)]
+#[derive(Clone, Copy)]
 pub struct Fields {
     pub kind: u32,
     pub variant: u32,
@@ -76,13 +76,13 @@ pub struct Fields {
 }
 
 // What judging spends: the steps.
-#[derive(Drop)]
+#[derive(Clone, Copy)]
 pub struct Spent {
     pub steps: u32,
 }
 
 // What a record of a kind is; of a kind that is none, unknown.
-#[derive(Drop)]
+#[derive(Clone, Copy)]
 pub enum Class {
     Test,
     Item,

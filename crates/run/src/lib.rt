@@ -8,7 +8,7 @@ ghost use Rattle.run.specs.Stepping.{stepped};
 use judge::{Judged, Tally};
 use walk::Step;
 
-#[derive(Drop)]
+#[derive(Clone, Copy)]
 pub enum Ran {
     // A record was judged: the answer, the tally after it, and the place where the run goes on.
     Judged {

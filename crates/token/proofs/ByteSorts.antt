@@ -67,18 +67,18 @@ sort_complete b (mark t) banging = refl
 sort_complete b quote e = rw e
 sort_complete b letter l =
     simp (
-      ne_eqb b 32 (λ e. l.no-blank (rw e space)),
-      ne_eqb b 9 (λ e. l.no-blank (rw e tab)),
-      ne_eqb b 10 (λ e. l.no-blank (rw e line_feed)),
-      ne_eqb b 40 (λ e. l.no-mark open' (rw e opening)),
-      ne_eqb b 41 (λ e. l.no-mark close (rw e closing)),
-      ne_eqb b 33 (λ e. l.no-mark bang (rw e banging)),
-      ne_eqb b 39 l.no-quote,
+      ne_eqb b 32 (λ e. l.no_blank (rw e space)),
+      ne_eqb b 9 (λ e. l.no_blank (rw e tab)),
+      ne_eqb b 10 (λ e. l.no_blank (rw e line_feed)),
+      ne_eqb b 40 (λ e. l.no_mark open' (rw e opening)),
+      ne_eqb b 41 (λ e. l.no_mark close (rw e closing)),
+      ne_eqb b 33 (λ e. l.no_mark bang (rw e banging)),
+      ne_eqb b 39 l.no_quote,
     )
 
 -- a quote is no letter
 pub quote_stops : {bs : List ℕ} → Stops (39 ∷ bs)
-quote_stops = before (λ l. l.no-quote refl)
+quote_stops = before (λ l. l.no_quote refl)
 
 -- a byte that isn't a letter ends a word
 pub other_stops : {b : ℕ} {bs : List ℕ} (k : ByteSort) → OfSort b k → (k ≡ letter → ⊥) → Stops (b ∷ bs)

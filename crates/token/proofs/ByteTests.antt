@@ -21,9 +21,9 @@ blank_complete line_feed = refl
 pub letter_blank : (b : ℕ) → Letter b → is_blank b ≡ false
 unfolding is_blank
 letter_blank b l = rw (
-  ne_eqb b 32 (λ e. l.no-blank (rw e space)),
-  ne_eqb b 9 (λ e. l.no-blank (rw e tab)),
-  ne_eqb b 10 (λ e. l.no-blank (rw e line_feed)),
+  ne_eqb b 32 (λ e. l.no_blank (rw e space)),
+  ne_eqb b 9 (λ e. l.no_blank (rw e tab)),
+  ne_eqb b 10 (λ e. l.no_blank (rw e line_feed)),
 )
 
 -- what passes is a blank
@@ -47,10 +47,10 @@ blank_not b e k = never (sym e ∙ blank_complete k)
 pub letter_complete : (b : ℕ) → Letter b → is_letter b ≡ true
 unfolding is_letter
 letter_complete b l = rw (
-  ne_eqb b 40 (λ e. l.no-mark open' (rw e opening)),
-  ne_eqb b 41 (λ e. l.no-mark close (rw e closing)),
-  ne_eqb b 33 (λ e. l.no-mark bang (rw e banging)),
-  ne_eqb b 39 l.no-quote,
+  ne_eqb b 40 (λ e. l.no_mark open' (rw e opening)),
+  ne_eqb b 41 (λ e. l.no_mark close (rw e closing)),
+  ne_eqb b 33 (λ e. l.no_mark bang (rw e banging)),
+  ne_eqb b 39 l.no_quote,
   letter_blank b l,
 )
 

@@ -1,4 +1,6 @@
 // Tokens of a text: the next one from a place on, its bytes, where blanks end, the first forbidden byte and the quote that isn't closed.
+#![tactic(auto)]
+
 ghost use Rattle.std.specs.Prelude.{◌≡◌, ◌+◌, ◌-◌, ◌<◌, length};
 ghost use Rattle.token.specs.Texts.{allowed};
 ghost use Rattle.token.specs.Next.{is_blank, is_letter, is_in, run_end, lexeme, quote_at, start_at, next_at, part, bytes_in, allowed_front, unclosed_at};
@@ -11,7 +13,7 @@ const FIRST_PRINTED: u8 = 0x20;
 const LAST_PRINTED: u8 = 0x7E;
 
 // What stands at a place: nothing up to the end, a token, or a quote that isn't closed.
-#[derive(Drop)]
+#[derive(Clone, Copy)]
 pub enum Sort {
     End,
     Open,
@@ -23,7 +25,7 @@ pub enum Sort {
 }
 
 // A sort, the place of its first byte and the place behind its last.
-#[derive(Drop)]
+#[derive(Clone, Copy)]
 pub struct Lexeme {
     pub sort: Sort,
     pub start: usize,
@@ -31,7 +33,7 @@ pub struct Lexeme {
 }
 
 // Bytes that are passed over together, up to the first that is none of them.
-#[derive(Drop)]
+#[derive(Clone, Copy)]
 enum Run {
     Blanks,
     Letters,

@@ -1,9 +1,11 @@
 // The walk over a run of records: what stands at a place, and a reader that goes on from step to step.
+#![tactic(auto)]
+
 ghost use Rattle.std.specs.Prelude.{◌≡◌, ◌<◌, ◌^◌};
 ghost use Rattle.walk.specs.Steps.{step_at, record_of, place_after};
 ghost use Rattle.walk.specs.Readers.{fresh, step_on, moved};
 
-#[derive(Drop)]
+#[derive(Clone, Copy)]
 pub enum Step {
     // A whole record: where it starts, and its bytes with its header.
     Record { start: usize, len: usize },
@@ -14,7 +16,7 @@ pub enum Step {
 }
 
 // A reader over a run: the bytes, and the place of the next step.
-#[derive(Drop)]
+#[derive(Clone, Copy)]
 pub struct Reader<'a> {
     pub bytes: &'a [u8],
     pub at: usize,
