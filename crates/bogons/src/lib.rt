@@ -1,4 +1,6 @@
 // AS numbers that are reserved or for private use: the table of document 000, and the search for a number in it.
+#![tactic(auto)]
+
 ghost use Rattle.std.specs.Prelude.{◌≡◌, ◌+◌, ◌≤◌, leb};
 ghost use Rattle.bogons.specs.Bogons.{is_bogon};
 ghost use Rattle.bogons.specs.Search.{after, pair_holds, bogon_search, most_comparisons};

@@ -1,4 +1,6 @@
 // Communities (RFC 1997): numbers of four bytes, one after another in the body of a COMMUNITY attribute. Three have a name.
+#![tactic(auto)]
+
 ghost use Rattle.std.specs.Prelude.{◌≡◌};
 ghost use Rattle.octets.specs.Rows.{whole};
 ghost use Rattle.octets.specs.Writes.{Written};
