@@ -1,47 +1,70 @@
 // Filters MRT records: `grainlantern FILTERFILE < RECORDS` writes the lines of the records that the filter keeps.
+#![tactic(auto)]
+
 ghost use Rattle.std.specs.Prelude.{◌≡◌, ◌≤◌, length};
 ghost use Rattle.grainlantern.specs.Refusal.{refusal_text, RefusedAt};
 ghost use Rattle.grainlantern.specs.Output.{Lent, kept_lines, OfRun};
 
 use filter::Compiled;
 use judge::{Judged, Tally};
-use libc::{STDIN_FILENO, STDOUT_FILENO};
 use run::Ran;
+use std::fs;
+use std::io::Read;
+use std::rt::Env;
+
+// No path that can be opened is longer.
+const PATH_ROOM: usize = 4096;
+
+// So much of the input is read.
+const INPUT_ROOM: usize = 65536;
+
+// As many bytes hold the lines of any record.
+const LINE_ROOM: usize = 65536;
 
 // One byte more than a text may have, so that one that is too long is seen.
 const FILTER_ROOM: usize = token::TEXT_LIMIT + 1;
 
 // Reads to the end of a file, or until the room is full, and answers the bytes read. A read that fails gives 0: what came before it would be
 // another filter.
-fn read_file(fd: i32, room: &mut [u8]) -> usize {
+fn read_file<R: Read>(file: &mut R, room: &mut [u8]) -> usize {
     let mut length = 0;
     while length < room.len() {
-        let rest = &mut room[length..];
-        let got = libc::read(fd, rest);
-        if got < 0 {
-            return 0;
+        match file.read(&mut room[length..]) {
+            Err(_) => return 0,
+            Ok(0) => return length,
+            Ok(more) => length += more,
         }
-        let more = io::count(got, rest);
-        if more == 0 {
-            return length;
-        }
-        length += more;
     }
     length
 }
 
-// Reads the filter that the first argument names, and answers its bytes. No argument, a name that is too long, and a file that can't be read
-// are an empty text.
-fn read_filter(text: &mut [u8]) -> usize {
-    let mut path = io::buffer();
-    let length = os::arg(1, &mut path);
-    let fd = os::open_read(&path[..length]);
-    if fd < 0 {
-        return 0;
+// Reads until the room is full, the input ends or a read fails, and answers the bytes read.
+fn read_input<R: Read>(input: &mut R, room: &mut [u8]) -> usize {
+    let mut length = 0;
+    while length < room.len() {
+        match input.read(&mut room[length..]) {
+            Err(_) => return length,
+            Ok(0) => return length,
+            Ok(more) => length += more,
+        }
     }
-    let read = read_file(fd, text);
-    libc::close(fd);
-    read
+    length
+}
+
+// Reads the filter that the first argument names, and answers its bytes. No argument, a name that is too long or no text, and a file that
+// can't be read are an empty text.
+fn read_filter(rt: &HostRuntime, text: &mut [u8]) -> usize {
+    let mut path = [0u8; PATH_ROOM];
+    let Ok(length) = rt.arg(1, &mut path) else {
+        return 0;
+    };
+    let Ok(name) = str::from_utf8(&path[..length]) else {
+        return 0;
+    };
+    let Ok(mut file) = fs::open(rt, name) else {
+        return 0;
+    };
+    read_file(&mut file, text)
 }
 
 // The text of a refusal, written over the start of a buffer.
@@ -59,20 +82,20 @@ fn refusal_text<'a>(out: &'a mut [u8], number: u32, place: u32) -> &'a [u8]
 }
 
 // The one writer of a refusal: by one write, so that no part of it follows a torn one.
-fn write_refusal(number: u32, place: u32, text: &[u8])
+fn write_refusal(rt: &HostRuntime, number: u32, place: u32, text: &[u8])
     requires refused_at { RefusedAt number place }
     requires text_value { text.now ≡ refusal_text number place }
 {
-    io::write_all(STDOUT_FILENO, text);
+    let _ = rt.write_all(text);
 }
 
 // Says why a filter isn't compiled, and where.
-fn refuse(number: u32, place: u32)
+fn refuse(rt: &HostRuntime, number: u32, place: u32)
     requires { RefusedAt number place }
 {
     let mut out = [0u8; 33];
     let text = refusal_text(&mut out, number, place);
-    write_refusal(number, place, text);
+    write_refusal(rt, number, place, text);
 }
 
 // The lines to hand on for an answer: those of a record that is kept.
@@ -87,15 +110,15 @@ fn kept_lines(judged: Judged, lines: &[u8]) -> &[u8]
 }
 
 // The one writer of lines: it answers whether the next ones may follow. The program and the records say whose lines they are.
-fn write_lines(program: &[u8], records: &[u8], lines: &[u8]) -> bool
+fn write_lines(rt: &HostRuntime, program: &[u8], records: &[u8], lines: &[u8]) -> bool
     requires lent { Lent program.now }
     requires of_run { OfRun program.now records.now lines.now }
 {
-    io::write_all(STDOUT_FILENO, lines)
+    rt.write_all(lines).is_ok()
 }
 
 // Judges the records one after another, from the first byte on, and hands on the lines of each.
-fn judge_records(program: &[u8], records: &[u8], lines: &mut [u8])
+fn judge_records(rt: &HostRuntime, program: &[u8], records: &[u8], lines: &mut [u8])
     requires { Lent program.now }
 {
     let mut at = 0;
@@ -115,7 +138,7 @@ fn judge_records(program: &[u8], records: &[u8], lines: &mut [u8])
         else {
             return;
         };
-        if !write_lines(program, records, kept_lines(judged, lines)) {
+        if !write_lines(rt, program, records, kept_lines(judged, lines)) {
             return;
         }
         at = next;
@@ -123,28 +146,28 @@ fn judge_records(program: &[u8], records: &[u8], lines: &mut [u8])
     }
 }
 
-// Filters the first 65,536 bytes of the input. As many bytes hold the lines of any record.
-fn filter_records(program: &[u8])
+// Filters the first bytes of the input.
+fn filter_records(rt: &HostRuntime, program: &[u8])
     requires { Lent program.now }
 {
-    let mut records = io::large_buffer();
-    let mut lines = io::large_buffer();
-    let length = io::read_full(STDIN_FILENO, &mut records);
-    judge_records(program, &records[..length], &mut lines);
+    let mut records = [0u8; INPUT_ROOM];
+    let mut lines = [0u8; LINE_ROOM];
+    let length = read_input(&mut rt.stdin(), &mut records);
+    judge_records(rt, program, &records[..length], &mut lines);
 }
 
-fn main() {
+fn main(rt: HostRuntime) {
     // a byte more than a text may have, and the longest program
     let mut text = [0u8; FILTER_ROOM];
     let mut program = [0u8; program::PROGRAM_LIMIT];
-    let length = read_filter(&mut text);
+    let length = read_filter(&rt, &mut text);
     let compiled = filter::compile(octets::part(&text, 0, length), &mut program);
     match compiled {
         Compiled::Refused(refusal, at) => {
             let number = filter::number_of(refusal);
             let place = at as u32;
-            refuse(number, place);
+            refuse(&rt, number, place);
         }
-        Compiled::Program(size) => filter_records(octets::part(&program, 0, size)),
+        Compiled::Program(size) => filter_records(&rt, octets::part(&program, 0, size)),
     }
 }

@@ -1,10 +1,12 @@
 // Prints what the code says of the known records of document 01, of one record for each refusal, and of runs of records.
+#![tactic(auto)]
+
 ghost use Rattle.std.specs.Prelude.{◌≡◌};
 ghost use Rattle.walk.specs.Steps.{step_of};
 
-use libc::STDOUT_FILENO;
 use line::Wrote;
 use message::Decoded;
+use std::io;
 use walk::Step;
 
 // A run of three records: R, of 83 bytes; R32, of 84, which is R with a prefix of 32 bits; and R33, of 85, with one of 33.
@@ -31,83 +33,82 @@ const RUN: [u8; 252] = [
     0x0A, 0x01, 0x02, 0x03, 0x04,
 ];
 
-fn say(text: &[u8]) {
-    io::write_all(STDOUT_FILENO, text);
+fn say(rt: &HostRuntime, text: &[u8]) -> io::Result<()> {
+    rt.write_all(text)
 }
 
-fn say_number(n: u32) {
+fn say_number(rt: &HostRuntime, n: u32) -> io::Result<()> {
     let mut digits = [0u8; 10];
     let end = octets::put_decimal(&mut digits, 0, n);
-    say(octets::part(&digits, 0, end));
+    say(rt, octets::part(&digits, 0, end))
 }
 
-fn say_refused(n: u32) {
-    say(b"refused ");
-    say_number(n);
-    say(b"\n");
+fn say_refused(rt: &HostRuntime, n: u32) -> io::Result<()> {
+    say(rt, b"refused ")?;
+    say_number(rt, n)?;
+    say(rt, b"\n")
 }
 
 // The lines of a record, laid into the room lent, or the refusal.
-fn tell(record: &[u8], room: &mut [u8]) {
+fn tell(rt: &HostRuntime, record: &[u8], room: &mut [u8]) -> io::Result<()> {
     let decoded = message::decode(record);
     match decoded {
-        Decoded::Refused(refusal) => say_refused(message::number_of(refusal)),
+        Decoded::Refused(refusal) => say_refused(rt, message::number_of(refusal)),
         Decoded::Read(parts) => {
             let wrote = line::write(record, parts, room);
             match wrote {
-                Wrote::Bytes(n) => say(octets::part(room, 0, n)),
-                Wrote::Short => say_refused(19),
+                Wrote::Bytes(n) => say(rt, octets::part(room, 0, n)),
+                Wrote::Short => say_refused(rt, 19),
             }
         }
     }
 }
 
 // R with two bytes changed.
-fn tell_changed(at: usize, b: u8, also: usize, c: u8) {
+fn tell_changed(rt: &HostRuntime, at: usize, b: u8, also: usize, c: u8) -> io::Result<()> {
     let mut run = RUN;
     octets::put(&mut run, at, b);
     octets::put(&mut run, also, c);
     let mut room = [0u8; 256];
-    tell(octets::part(&run, 0, 83), &mut room);
+    tell(rt, octets::part(&run, 0, 83), &mut room)
 }
 
-fn tell_one(at: usize, b: u8) {
-    tell_changed(at, b, at, b);
+fn tell_one(rt: &HostRuntime, at: usize, b: u8) -> io::Result<()> {
+    tell_changed(rt, at, b, at, b)
 }
 
 // A prefix on its own.
-fn tell_network(prefix: &[u8]) {
+fn tell_network(rt: &HostRuntime, prefix: &[u8]) -> io::Result<()> {
     if network::prefix_size(prefix, 0) == 0 {
-        say(b"no prefix\n");
-        return;
+        return say(rt, b"no prefix\n");
     }
     let mut text = [0u8; 18];
     let end = network::put_network(&mut text, 0, network::network_at(prefix, 0));
-    say(octets::part(&text, 0, end));
-    say(b"\n");
+    say(rt, octets::part(&text, 0, end))?;
+    say(rt, b"\n")
 }
 
-fn refusals() {
-    say(b"11, a length that is not the rest: ");
-    tell_one(11, 0x48);
-    say(b"12, subtype 2: ");
-    tell_one(7, 2);
-    say(b"13, family 2: ");
-    tell_one(23, 2);
-    say(b"14, no marker: ");
-    tell_one(32, 0xFE);
-    say(b"15, 200 withdrawn bytes: ");
-    tell_one(52, 200);
-    say(b"16, an attribute of 200 bytes: ");
-    tell_one(74, 200);
-    say(b"16, ORIGIN twice: ");
-    tell_one(73, 1);
-    say(b"17, ORIGIN 3: ");
-    tell_one(58, 3);
-    say(b"16 and 17 both, ORIGIN 3 and an attribute of 200 bytes: ");
-    tell_changed(58, 3, 74, 200);
-    say(b"18, a prefix of 25 bits in three bytes: ");
-    tell_one(79, 25);
+fn refusals(rt: &HostRuntime) -> io::Result<()> {
+    say(rt, b"11, a length that is not the rest: ")?;
+    tell_one(rt, 11, 0x48)?;
+    say(rt, b"12, subtype 2: ")?;
+    tell_one(rt, 7, 2)?;
+    say(rt, b"13, family 2: ")?;
+    tell_one(rt, 23, 2)?;
+    say(rt, b"14, no marker: ")?;
+    tell_one(rt, 32, 0xFE)?;
+    say(rt, b"15, 200 withdrawn bytes: ")?;
+    tell_one(rt, 52, 200)?;
+    say(rt, b"16, an attribute of 200 bytes: ")?;
+    tell_one(rt, 74, 200)?;
+    say(rt, b"16, ORIGIN twice: ")?;
+    tell_one(rt, 73, 1)?;
+    say(rt, b"17, ORIGIN 3: ")?;
+    tell_one(rt, 58, 3)?;
+    say(rt, b"16 and 17 both, ORIGIN 3 and an attribute of 200 bytes: ")?;
+    tell_changed(rt, 58, 3, 74, 200)?;
+    say(rt, b"18, a prefix of 25 bits in three bytes: ")?;
+    tell_one(rt, 79, 25)
 }
 
 // What a reader answers at its third step over a run.
@@ -121,71 +122,72 @@ fn third_step(bytes: &[u8]) -> Step
 }
 
 // A place or a length; none here needs more than 32 bits.
-fn say_size(n: usize) {
+fn say_size(rt: &HostRuntime, n: usize) -> io::Result<()> {
     if n < 4294967296 {
-        say_number(n as u32);
+        say_number(rt, n as u32)?;
     }
+    Ok(())
 }
 
 // The third step over the run's bytes up to a place.
-fn tell_third(end: usize) {
+fn tell_third(rt: &HostRuntime, end: usize) -> io::Result<()> {
     let run = RUN;
     let step = third_step(octets::part(&run, 0, end));
     match step {
         Step::Record { start, len } => {
-            say(b"a record at ");
-            say_size(start);
-            say(b" of ");
-            say_size(len);
-            say(b" bytes\n");
+            say(rt, b"a record at ")?;
+            say_size(rt, start)?;
+            say(rt, b" of ")?;
+            say_size(rt, len)?;
+            say(rt, b" bytes\n")
         }
-        Step::Done => say(b"done\n"),
+        Step::Done => say(rt, b"done\n"),
         Step::Cut { left } => {
-            say(b"cut, ");
-            say_size(left);
-            say(b" bytes left\n");
+            say(rt, b"cut, ")?;
+            say_size(rt, left)?;
+            say(rt, b" bytes left\n")
         }
     }
 }
 
-fn third_steps() {
-    say(b"third step over R, R32, R33: ");
-    tell_third(252);
-    say(b"third step over R, R32: ");
-    tell_third(167);
-    say(b"third step over R, R32, 84 bytes: ");
-    tell_third(251);
-    say(b"third step over R, R32, 11 bytes: ");
-    tell_third(178);
-    say(b"third step over R: ");
-    tell_third(83);
-    say(b"third step over R, 11 bytes: ");
-    tell_third(94);
+fn third_steps(rt: &HostRuntime) -> io::Result<()> {
+    say(rt, b"third step over R, R32, R33: ")?;
+    tell_third(rt, 252)?;
+    say(rt, b"third step over R, R32: ")?;
+    tell_third(rt, 167)?;
+    say(rt, b"third step over R, R32, 84 bytes: ")?;
+    tell_third(rt, 251)?;
+    say(rt, b"third step over R, R32, 11 bytes: ")?;
+    tell_third(rt, 178)?;
+    say(rt, b"third step over R: ")?;
+    tell_third(rt, 83)?;
+    say(rt, b"third step over R, 11 bytes: ")?;
+    tell_third(rt, 94)
 }
 
-fn main() {
-    say(b"R: ");
-    tell_one(0, 0x60);
+fn main(rt: HostRuntime) -> io::Result<()> {
+    say(&rt, b"R: ")?;
+    tell_one(&rt, 0, 0x60)?;
     let run = RUN;
-    say(b"R in 71 bytes: ");
+    say(&rt, b"R in 71 bytes: ")?;
     let mut room = [0u8; 71];
-    tell(octets::part(&run, 0, 83), &mut room);
-    say(b"R in 70 bytes: ");
+    tell(&rt, octets::part(&run, 0, 83), &mut room)?;
+    say(&rt, b"R in 70 bytes: ")?;
     let mut short = [0u8; 70];
-    tell(octets::part(&run, 0, 83), &mut short);
-    say(b"17 0A 01 03: ");
-    tell_network(b"\x17\x0A\x01\x03");
-    say(b"20 0A 01 02 03: ");
-    tell_network(b"\x20\x0A\x01\x02\x03");
-    say(b"21 0A 01 02 03 04: ");
-    tell_network(b"\x21\x0A\x01\x02\x03\x04");
-    say(b"R with 17 0A 01 03: ");
-    tell_changed(79, 0x17, 82, 0x03);
+    tell(&rt, octets::part(&run, 0, 83), &mut short)?;
+    say(&rt, b"17 0A 01 03: ")?;
+    tell_network(&rt, b"\x17\x0A\x01\x03")?;
+    say(&rt, b"20 0A 01 02 03: ")?;
+    tell_network(&rt, b"\x20\x0A\x01\x02\x03")?;
+    say(&rt, b"21 0A 01 02 03 04: ")?;
+    tell_network(&rt, b"\x21\x0A\x01\x02\x03\x04")?;
+    say(&rt, b"R with 17 0A 01 03: ")?;
+    tell_changed(&rt, 79, 0x17, 82, 0x03)?;
     let mut lines = [0u8; 256];
-    say(b"R with 20 0A 01 02 03: ");
-    tell(octets::part(&run, 83, 84), &mut lines);
-    say(b"R with 21 0A 01 02 03 04: ");
-    tell(octets::part(&run, 167, 85), &mut lines);
-    refusals();
-    third_steps();
+    say(&rt, b"R with 20 0A 01 02 03: ")?;
+    tell(&rt, octets::part(&run, 83, 84), &mut lines)?;
+    say(&rt, b"R with 21 0A 01 02 03 04: ")?;
+    tell(&rt, octets::part(&run, 167, 85), &mut lines)?;
+    refusals(&rt)?;
+    third_steps(&rt)
 }
