@@ -1,4 +1,6 @@
 // AS_PATH bodies: segments of a type, a count and as many AS numbers, each of two bytes or four.
+#![tactic(auto)]
+
 ghost use Rattle.std.specs.Prelude.{◌≡◌, ◌≤◌, drop};
 ghost use Rattle.octets.specs.Rows.{whole};
 ghost use Rattle.aspath.specs.Members.{member_of};
