@@ -12,11 +12,11 @@ LIBDIR = $(PREFIX)/lib
 INCLUDEDIR = $(PREFIX)/include
 MANDIR = $(PREFIX)/share/man
 
-PROGRAM = target/bin/grainlantern
-ARCHIVE = target/staticlib/libgrainlantern_c.a
+PROGRAM = crates/grainlantern/out/grainlantern
+ARCHIVE = crates/grainlantern_c/out/libgrainlantern_c.a
 MRTGREP = rust/target/release/mrtgrep
 
-PROVED := crates.txt $(shell find crates -type f)
+PROVED := crates.txt $(shell find crates -name out -prune -o -type f -print)
 RUST := rust/Cargo.toml rust/mrtgrep/Cargo.toml $(shell find rust/grainlantern rust/mrtgrep/src -type f)
 VERSION := $(shell sed -n 's/^version = "\(.*\)"/\1/p' rust/Cargo.toml)
 
@@ -25,11 +25,11 @@ all: $(PROGRAM) $(ARCHIVE) $(MRTGREP)
 # touched, since a file that would be the same isn't written again
 
 $(PROGRAM): $(PROVED)
-	rt check grainlantern
+	cd crates/grainlantern && rt run </dev/null >/dev/null
 	touch $@
 
 $(ARCHIVE): $(PROVED)
-	rt staticlib grainlantern_c
+	cd crates/grainlantern_c && rt lib
 	touch $@
 
 $(MRTGREP): $(RUST) $(PROVED)

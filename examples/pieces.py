@@ -6,7 +6,7 @@
 The program reads the first 65,536 bytes of its input. So the file is cut between records into pieces of at most that many bytes, and the
 program is run on each of them, in order. A record that is longer gets a piece of its own: the program prints nothing for it.
 
-PROGRAM is bin/grainlantern where none is named, which looks at each run whether a source has changed; target/bin/grainlantern, which it builds, is
+PROGRAM is bin/grainlantern where none is named, which looks at each run whether a source has changed; crates/grainlantern/out/grainlantern, which it builds, is
 quicker.
 """
 

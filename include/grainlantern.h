@@ -1,7 +1,7 @@
 /*
  * Grainlantern: filters MRT update records (RFC 6396, RFC 4271). For C99 and C++, on x86-64.
  *
- * Link target/staticlib/libgrainlantern_c.a, which `rt staticlib grainlantern_c` proves and builds; it needs no other library.
+ * Link libgrainlantern_c.a, which `rt lib` in crates/grainlantern_c proves and builds, in out/; it needs no other library.
  * examples/c/filter.c is a whole program over these functions. README.md and man/grainlantern.1 have the filter language, the
  * lines and each refusal.
  *

@@ -4,6 +4,7 @@
 mod rt;
 
 fn main() {
-    rt::watch("target/bin/grainlantern");
-    rt::rt("check", "grainlantern");
+    rt::watch("crates/grainlantern/out/grainlantern");
+    // it builds the program and runs it, without a filter
+    rt::rt("run", "grainlantern");
 }

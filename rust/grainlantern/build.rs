@@ -17,11 +17,11 @@ fn main() {
             "the proved code is built for {ARCHITECTURE} only, and this build is for {target}"
         ));
     }
-    // the archive itself is written anew each time, what it is made of only by a new proof
-    rt::watch("target/rlib/grainlantern_c.rlib");
-    rt::rt("staticlib", "grainlantern_c");
+    let built = format!("crates/grainlantern_c/out/{ARCHIVE}");
+    rt::watch(&built);
+    rt::rt("lib", "grainlantern_c");
     // a copy is linked, since another run of `rt` may write its own anew at any time
-    let built = rt::root().join("target/staticlib").join(ARCHIVE);
+    let built = rt::root().join(built);
     let out = env::var("OUT_DIR").unwrap();
     if let Err(why) = fs::copy(&built, format!("{out}/{ARCHIVE}")) {
         rt::fail(&format!("{} could not be copied: {why}", built.display()));

@@ -160,10 +160,14 @@ def number_mutants(text):
 def promises_of(item, text):
     """Changes to the promise: what is said of a lent value before is said of it afterwards, or the reverse, or of another parameter."""
     found = []
-    for m in re.finditer(r"now \((\w+) \.(entry|exit)\)", text[item.contract[0] : item.contract[1]]):
+    if not item.contract:
+        return found
+    for m in re.finditer(r"\b(\w+)\.(old|new|now)\b", text[item.contract[0] : item.contract[1]]):
         start = item.contract[0]
         if m.group(1) in item.lent:
-            found.append(Mutant(item, "promise", [(start + m.start(2), start + m.end(2), "entry" if m.group(2) == "exit" else "exit")]))
+            found.append(Mutant(item, "promise", [(start + m.start(2), start + m.end(2), "old" if m.group(2) == "new" else "new")]))
+        if m.group(1) not in item.parameters:
+            continue
         for other in item.parameters:
             if other != m.group(1):
                 found.append(Mutant(item, "promise", [(start + m.start(1), start + m.end(1), other)]))

@@ -3,7 +3,7 @@ import re
 
 from .code import Item, Mutant, Token
 
-TOKEN = re.compile(r"(?P<skip>\s+|--[^\n]*)|(?P<open>[({\[])|(?P<close>[)}\]])|(?P<semicolon>;)|(?P<word>[^\s(){}\[\];]+)")
+TOKEN = re.compile(r"(?P<skip>\s+|--[^\n]*)|(?P<open>[({\[])|(?P<close>[)}\]])|(?P<semicolon>;)|(?P<word>\.?[^\s(){}\[\];.]+|\.)")
 TURNED = {"≤": "<", "<": "≤", "leb": "ltb", "ltb": "leb", "true": "false", "false": "true", "+": "-"}
 HEAD = re.compile(r"^(?:(?:abbrev|unfoldable) )?(?:pub )?(record |data )?([^\s:(={-][^\s:]*)\s", re.M)
 
@@ -28,7 +28,7 @@ def constructors(text):
     """The constructors of a file's data types, by name, with those of the same type that have no argument."""
     found = {}
     for body in re.findall(r"^(?:pub )?data [^\n]*where\n((?:  .*\n)+)", text, re.M):
-        names = [n for line in re.findall(r"^  ([\w′ -]+?) : [^→\n]*$", body, re.M) for n in line.split()]
+        names = [n for line in re.findall(r"^  ([\w' -]+?) : [^→\n]*$", body, re.M) for n in line.split()]
         for name in names:
             found[name] = [n for n in names if n != name]
     return found
@@ -49,7 +49,7 @@ def bound_names(line):
     left, equals, _ = line.partition(" = ")
     if not equals:
         return []
-    return re.findall(r"(?<![\w.])([a-z]\w*′?)(?![\w′])", left)[1:]
+    return re.findall(r"(?<![\w.])([a-z]\w*'?)(?![\w'])", left)[1:]
 
 
 def atom_end(tokens, i):
@@ -58,7 +58,8 @@ def atom_end(tokens, i):
     while i < len(tokens):
         depth += (tokens[i].kind == "open") - (tokens[i].kind == "close")
         i += 1
-        if depth == 0:
+        projected = i < len(tokens) and tokens[i].text.startswith(".") and tokens[i].start == tokens[i - 1].end
+        if depth == 0 and not projected:
             break
     return i
 
@@ -83,7 +84,7 @@ def conditions(rule):
 
 def own_names(text, crate, file, rule):
     """What a file calls a rule of a crate's specs/FILE.antt: its name, another, or one behind the module's."""
-    module = rf"Rattle·{crate}(?:·specs)?\.specs\.{file}"
+    module = rf"Rattle\.{crate}\.specs\.{file}"
     names = []
     for brought in re.findall(rf"^use {module}\.\{{([^}}]*)\}}", text, re.M):
         for name, _, other in (part.strip().partition(" as ") for part in brought.split(",")):
@@ -105,7 +106,7 @@ def with_blank(text, names):
         if after.startswith(" :") or (before.endswith(("{", ";")) and after.startswith(" =")):
             return m.group()
         # an argument of a function, or of another rule's pattern
-        inner = re.search(r"[\w′)\]}]$", last) and last not in ("in", "where")
+        inner = re.search(r"[\w')\]}]$", last) and last not in ("in", "where")
         return f"({m.group()} _)" if inner else f"{m.group()} _"
 
     return text[:start] + re.sub(rf"(?<![^\s({{\[,;])(?:{word})(?![^\s)}}\],;])", blank, text[start:])
@@ -150,7 +151,7 @@ def mutants_of(item, known, text):
     # a type of values, as `data Side : Type 0`, has no rules
     relation = re.match(r"(?:pub )?data (?!\S+ : Type)", body)
     # a rule or a field dropped: a line of two blanks, a name and ':', with the deeper lines behind it
-    for m in re.finditer(r"^  (?:pub )?([\w′-]+) : .*\n?(?:^   +.*\n?)*", body, re.M):
+    for m in re.finditer(r"^  (?:pub )?([\w'-]+) : .*\n?(?:^   +.*\n?)*", body, re.M):
         add("rule", (item.start + m.start(), item.start + m.end(), ""))
         if relation:
             first = item.start + m.end(1) + len(" : ")

@@ -27,9 +27,6 @@ class Row:
         texts = source.changed(mutant)
         status, log = bench.run(label, texts)
         self.result, self.at = prover.sorted_out(status, log)
-        # a walk by hand fits no other body
-        if self.result == "fact" and self.kind != "promise" and self.file.startswith("src/") and source.by_hand(mutant.item):
-            self.result = "unfit"
         if self.result == "accepted" and self.file.startswith("specs/"):
             self.result, self.at = bench.dependents(texts)
         bench.keep(self, log)

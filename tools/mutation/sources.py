@@ -12,14 +12,9 @@ class Source:
         self.known = known(self.text)
         self.items = module.items_of(self.text)
 
-    def by_hand(self, item):
-        """Whether a function's proof is a walk of its code by hand, which fits no other body."""
-        proof = self.folder / "proofs" / item.name / "Proof.antt"
-        return proof.exists() and "use denote.Triple.Walked" in proof.read_text()
-
     def mutants(self, item):
         found = self.module.mutants_of(item, self.known, self.text)
-        if self.module is code_of and self.by_hand(item):
+        if self.module is code_of:
             found += code_of.promises_of(item, self.text)
         return found
 

@@ -1,4 +1,6 @@
 // The demands as claims, and a function that meets the third at its arguments.
+#![tactic(auto)]
+
 ghost use Rattle.std.specs.Prelude.{◌≡◌};
 ghost use Rattle.judge.specs.Functions.{judging_of, our_judge};
 ghost use Rattle.claims.specs.Answered.{counting_of, Claimed};

@@ -1,4 +1,6 @@
 // The interface for C: numbers for answers, their values in four places that the caller lends.
+#![tactic(auto)]
+
 ghost use Rattle.std.specs.Prelude.{◌≡◌, List, [], ◌∷◌, ℕ};
 ghost use Rattle.std.proofs.Math.Option.{Option, some, none};
 ghost use Rattle.walk.specs.Steps.{step_at};

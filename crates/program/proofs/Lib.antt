@@ -1,5 +1,4 @@
 -- Laws of programs. Assumes nothing.
-pub mod Answers
 pub mod Codes
 pub mod LayoutLaws
 pub mod MachineLaws

@@ -1,14 +1,13 @@
 -- What `whole group_size` decides: each test is followed by what may follow it, which stands nowhere else. Assumes nothing.
-use Prim.Native.Nat.{ℕ, zero, suc, ◌+◌, ◌*◌, ◌≤◌, ◌<◌}
+use Prim.Native.Nat.{ℕ, zero, suc, ◌+◌, ◌*◌, ◌≤◌}
 use native.Mathlib.Nat.{lt_of_not-le, not-suc-le-zero}
 use native.Mathlib.Decide.{dec_le}
 use native.Mathlib.Omega.{arith}
 use mathlib.Core.Path.{◌≡◌, refl, sym, ap, ◌∙◌}
 use mathlib.Core.Bool.{Bool, true, false}
 use mathlib.Core.List.{List, [], ◌∷◌, ◌++◌, map}
-use lib.ListN.{length, drop, length-append, length-drop, length-map}
+use lib.ListN.{length, drop, length-drop, length-map}
 use lib.Seq.{drop_at}
-use lib.Dec.{ltb}
 use borrow.Author.Tests.{lt-ltb, le-ltb}
 use Rattle.octets.specs.Choice.{pick, both}
 use Rattle.octets.specs.Lists.{Every, every_none, every_more}
@@ -20,8 +19,7 @@ use Rattle.aspath.specs.declared.Item.{Item}
 use Rattle.program.specs.declared.Class.{Class}
 use Rattle.program.specs.declared.Class.TheVariants.{Test as aTest, Item as an_item, Flip as aFlip, Pass as aPass, Unknown as unknown}
 use Rattle.program.specs.declared.Fields.{Fields}
-use Rattle.program.specs.Readings.{Operator}
-use Rattle.program.specs.Records.{Head, Record, head, item, flip, pass, Possible, count_of, Follows}
+use Rattle.program.specs.Records.{Head, Record, head, item, flip, pass, Possible, count_of}
 use Rattle.program.specs.Kinds.{class_of, class_is}
 use Rattle.program.specs.Layout.{record_size, head_fields, fields_of, fields_in, encode, encode_all}
 use Rattle.program.specs.Validity.{Grouped, end, a_test, a_flip, a_pass}

@@ -5,7 +5,7 @@ use native.Mathlib.Omega.{arith}
 use mathlib.Core.Path.{◌≡◌, refl, sym, ap, ◌∙◌}
 use mathlib.Core.Bool.{true}
 use mathlib.Core.List.{List, [], ◌∷◌, ◌++◌}
-use lib.ListN.{length, get_or, take, drop, length-append, length-drop, take-append-drop}
+use lib.ListN.{length, get_or, drop, length-append, length-drop, take-append-drop}
 use lib.Seq.{get_or-drop, drop_at, drop-nil, drop-drop, drop-cons}
 use borrow.Author.Tests.{le-ltb}
 use Rattle.octets.specs.Numbers.{Octets}

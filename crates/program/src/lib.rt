@@ -1,4 +1,6 @@
 // Programs: records of 16 bytes. Whether bytes are a valid program.
+#![tactic(auto)]
+
 ghost use Rattle.std.specs.Prelude.{◌≡◌, ◌+◌, ◌≤◌, drop, get_or, length};
 ghost use Rattle.octets.specs.Rows.{whole};
 ghost use Rattle.octets.specs.Writes.{Written};

@@ -105,7 +105,10 @@ fn refusals(rt: &HostRuntime) -> io::Result<()> {
     tell_one(rt, 73, 1)?;
     say(rt, b"17, ORIGIN 3: ")?;
     tell_one(rt, 58, 3)?;
-    say(rt, b"16 and 17 both, ORIGIN 3 and an attribute of 200 bytes: ")?;
+    say(
+        rt,
+        b"16 and 17 both, ORIGIN 3 and an attribute of 200 bytes: ",
+    )?;
     tell_changed(rt, 58, 3, 74, 200)?;
     say(rt, b"18, a prefix of 25 bits in three bytes: ")?;
     tell_one(rt, 79, 25)

@@ -8,7 +8,7 @@ use std::sync::OnceLock;
 use cases::{examples, path, stored};
 
 const STRICT: [&str; 4] = ["-Wall", "-Wextra", "-Werror", "-pedantic"];
-const ARCHIVE: &str = "target/staticlib/libgrainlantern_c.a";
+const ARCHIVE: &str = "crates/grainlantern_c/out/libgrainlantern_c.a";
 const KEEP_ALL: &str = "crates/grainlantern/data/keep-all.filter";
 
 /// A file of this test run.
@@ -257,7 +257,7 @@ fn the_makefile_builds_it() {
     assert!(output.status.success(), "{output:?}");
     let commands = String::from_utf8_lossy(&output.stdout).into_owned();
     assert!(
-        commands.contains("rt staticlib grainlantern_c"),
+        commands.contains("crates/grainlantern_c && rt lib"),
         "{commands}"
     );
 }

@@ -184,8 +184,8 @@ fn check_is_the_gate() {
 #[test]
 fn what_is_missing_or_old_is_built() {
     for (variable, command) in [
-        ("PROGRAM", "rt check grainlantern"),
-        ("ARCHIVE", "rt staticlib grainlantern_c"),
+        ("PROGRAM", "cd crates/grainlantern && rt run"),
+        ("ARCHIVE", "cd crates/grainlantern_c && rt lib"),
         ("MRTGREP", "cargo build"),
     ] {
         let commands = text(make(&["-n", &format!("{variable}=no-such-file")]).stdout);
@@ -193,8 +193,8 @@ fn what_is_missing_or_old_is_built() {
     }
     let commands = text(make(&["-n", "-W", "crates.txt"]).stdout);
     for command in [
-        "rt check grainlantern",
-        "rt staticlib grainlantern_c",
+        "cd crates/grainlantern && rt run",
+        "cd crates/grainlantern_c && rt lib",
         "cargo build",
     ] {
         assert!(commands.contains(command), "{commands}");

@@ -13,7 +13,7 @@ use cases::{bytes, examples, fed, path, stored, KEEP_ALL, R, R_LINE};
 const INPUT: usize = 65536;
 
 fn program() -> Command {
-    Command::new(path("target/bin/grainlantern"))
+    Command::new(path("crates/grainlantern/out/grainlantern"))
 }
 
 /// A file of this test run with a filter in it.

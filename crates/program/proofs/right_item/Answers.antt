@@ -1,0 +1,19 @@
+-- `program::right_item` meets its contract, by the tests in the order of its definition. Assumes nothing.
+use borrow.Author.Rules.{rules}
+use borrow.Author.Tests.{eq-eqb, ne_eqb, le-leb, lt-leb}
+use Rattle.program.proofs.right_item.Goals as goal
+
+pub returns-then-f-gt-LAST_ITEM : goal.returns-then-f-gt-LAST_ITEM
+returns-then-f-gt-LAST_ITEM c = search (rules, lt-leb)
+
+pub returns-then-f-ne0 : goal.returns-then-f-ne0
+returns-then-f-ne0 c = search (rules, ne_eqb, le-leb)
+
+pub returns-then-f-ne0-2 : goal.returns-then-f-ne0-2
+returns-then-f-ne0-2 c = search (rules, eq-eqb, ne_eqb, le-leb)
+
+pub returns-then-f-eq-LAST_ITEM : goal.returns-then-f-eq-LAST_ITEM
+returns-then-f-eq-LAST_ITEM c = search (rules, eq-eqb, le-leb)
+
+pub returns : goal.returns
+returns c = search (rules, eq-eqb, ne_eqb, le-leb)
