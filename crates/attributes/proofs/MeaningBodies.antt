@@ -7,7 +7,7 @@ use mathlib.Core.List.{List, [], ◌∷◌}
 use lib.ListN.{length, get_or, drop_of_length-le}
 use borrow.Author.Tests.{eq-eqb, eqb-true, leb-true, le-leb}
 use Rattle.octets.specs.Numbers.{Octets}
-use Rattle.octets.specs.Lists.{Every, every_more, some_here, some_there}
+use Rattle.octets.specs.Lists.{Every, every_none, every_more, some_here, some_there}
 use Rattle.octets.proofs.Bytes.{octets_take, octets_drop}
 use Rattle.octets.proofs.Rows.{joined_whole, joined_items, whole_joined}
 use Rattle.aspath.proofs.SegmentReads.{segment_reads}
@@ -95,6 +95,7 @@ module _ (w : ℕ) where
   -- where some attribute says nothing, not all bodies are right
   pub wrong_complete : {raws : List Raw} → Every OctetBody raws → SomeWrong w raws → all_right w raws ≡ false
   unfolding all_right
+  wrong_complete every_none x = elim x [ ]
   wrong_complete (every_more {a = r} {xs = raws} o os) (some_here x) = go (body_right w r.code r.body) refl
     where
       go : (b : Bool) → body_right w r.code r.body ≡ b → all_right w (r ∷ raws) ≡ false

@@ -1,4 +1,6 @@
 // Path attributes of an UPDATE: flags, a code, a length of one byte or two, and a body.
+#![tactic(auto)]
+
 ghost use Rattle.std.specs.Prelude.{◌≡◌, false, ◌+◌, ◌/◌, ◌%◌, ◌^◌, ◌<◌, ◌≤◌, length, drop, eqb};
 ghost use Rattle.aspath.specs.Wire.{width_bytes};
 ghost use Rattle.attributes.specs.Wire.{length_width, attribute_header, body_size, attribute_size, raws_of};

@@ -14,11 +14,13 @@ returns-then-same c = sym (row_found community_names (row [] 0) communities_diff
 
 pub returns-then-same-2 : goal.returns-then-same-2
 unfolding community_names
-returns-then-same-2 c = sym (row_found community_names (row [] 0) communities_differ 1 c.args.bytes.now (omega arith) c.same-2.ensures c.if-same-2.true)
+returns-then-same-2 c =
+    sym (row_found community_names (row [] 0) communities_differ 1 c.args.bytes.now (omega arith) c.same-2.ensures c.if-same-2.true)
 
 pub returns-then-same-3 : goal.returns-then-same-3
 unfolding community_names
-returns-then-same-3 c = sym (row_found community_names (row [] 0) communities_differ 2 c.args.bytes.now (omega arith) c.same-3.ensures c.if-same-3.true)
+returns-then-same-3 c =
+    sym (row_found community_names (row [] 0) communities_differ 2 c.args.bytes.now (omega arith) c.same-3.ensures c.if-same-3.true)
 
 pub returns : goal.returns
 unfolding community_names found

@@ -14,31 +14,38 @@ returns-then-same c = sym (row_found attribute_names (row [] 0) attributes_diffe
 
 pub returns-then-same-2 : goal.returns-then-same-2
 unfolding attribute_names
-returns-then-same-2 c = sym (row_found attribute_names (row [] 0) attributes_differ 1 c.args.bytes.now (omega arith) c.same-2.ensures c.if-same-2.true)
+returns-then-same-2 c =
+    sym (row_found attribute_names (row [] 0) attributes_differ 1 c.args.bytes.now (omega arith) c.same-2.ensures c.if-same-2.true)
 
 pub returns-then-same-3 : goal.returns-then-same-3
 unfolding attribute_names
-returns-then-same-3 c = sym (row_found attribute_names (row [] 0) attributes_differ 2 c.args.bytes.now (omega arith) c.same-3.ensures c.if-same-3.true)
+returns-then-same-3 c =
+    sym (row_found attribute_names (row [] 0) attributes_differ 2 c.args.bytes.now (omega arith) c.same-3.ensures c.if-same-3.true)
 
 pub returns-then-same-4 : goal.returns-then-same-4
 unfolding attribute_names
-returns-then-same-4 c = sym (row_found attribute_names (row [] 0) attributes_differ 3 c.args.bytes.now (omega arith) c.same-4.ensures c.if-same-4.true)
+returns-then-same-4 c =
+    sym (row_found attribute_names (row [] 0) attributes_differ 3 c.args.bytes.now (omega arith) c.same-4.ensures c.if-same-4.true)
 
 pub returns-then-same-5 : goal.returns-then-same-5
 unfolding attribute_names
-returns-then-same-5 c = sym (row_found attribute_names (row [] 0) attributes_differ 4 c.args.bytes.now (omega arith) c.same-5.ensures c.if-same-5.true)
+returns-then-same-5 c =
+    sym (row_found attribute_names (row [] 0) attributes_differ 4 c.args.bytes.now (omega arith) c.same-5.ensures c.if-same-5.true)
 
 pub returns-then-same-6 : goal.returns-then-same-6
 unfolding attribute_names
-returns-then-same-6 c = sym (row_found attribute_names (row [] 0) attributes_differ 5 c.args.bytes.now (omega arith) c.same-6.ensures c.if-same-6.true)
+returns-then-same-6 c =
+    sym (row_found attribute_names (row [] 0) attributes_differ 5 c.args.bytes.now (omega arith) c.same-6.ensures c.if-same-6.true)
 
 pub returns-then-same-7 : goal.returns-then-same-7
 unfolding attribute_names
-returns-then-same-7 c = sym (row_found attribute_names (row [] 0) attributes_differ 6 c.args.bytes.now (omega arith) c.same-7.ensures c.if-same-7.true)
+returns-then-same-7 c =
+    sym (row_found attribute_names (row [] 0) attributes_differ 6 c.args.bytes.now (omega arith) c.same-7.ensures c.if-same-7.true)
 
 pub returns-then-same-8 : goal.returns-then-same-8
 unfolding attribute_names
-returns-then-same-8 c = sym (row_found attribute_names (row [] 0) attributes_differ 7 c.args.bytes.now (omega arith) c.same-8.ensures c.if-same-8.true)
+returns-then-same-8 c =
+    sym (row_found attribute_names (row [] 0) attributes_differ 7 c.args.bytes.now (omega arith) c.same-8.ensures c.if-same-8.true)
 
 pub returns : goal.returns
 unfolding attribute_names

@@ -15,19 +15,23 @@ returns-then-same c = sym (row_found (drop 8 attribute_names) (row [] 0) later_d
 
 pub returns-then-same-2 : goal.returns-then-same-2
 unfolding attribute_names
-returns-then-same-2 c = sym (row_found (drop 8 attribute_names) (row [] 0) later_differ 1 c.args.bytes.now (omega arith) c.same-2.ensures c.if-same-2.true)
+returns-then-same-2 c =
+    sym (row_found (drop 8 attribute_names) (row [] 0) later_differ 1 c.args.bytes.now (omega arith) c.same-2.ensures c.if-same-2.true)
 
 pub returns-then-same-3 : goal.returns-then-same-3
 unfolding attribute_names
-returns-then-same-3 c = sym (row_found (drop 8 attribute_names) (row [] 0) later_differ 2 c.args.bytes.now (omega arith) c.same-3.ensures c.if-same-3.true)
+returns-then-same-3 c =
+    sym (row_found (drop 8 attribute_names) (row [] 0) later_differ 2 c.args.bytes.now (omega arith) c.same-3.ensures c.if-same-3.true)
 
 pub returns-then-same-4 : goal.returns-then-same-4
 unfolding attribute_names
-returns-then-same-4 c = sym (row_found (drop 8 attribute_names) (row [] 0) later_differ 3 c.args.bytes.now (omega arith) c.same-4.ensures c.if-same-4.true)
+returns-then-same-4 c =
+    sym (row_found (drop 8 attribute_names) (row [] 0) later_differ 3 c.args.bytes.now (omega arith) c.same-4.ensures c.if-same-4.true)
 
 pub returns-then-same-5 : goal.returns-then-same-5
 unfolding attribute_names
-returns-then-same-5 c = sym (row_found (drop 8 attribute_names) (row [] 0) later_differ 4 c.args.bytes.now (omega arith) c.same-5.ensures c.if-same-5.true)
+returns-then-same-5 c =
+    sym (row_found (drop 8 attribute_names) (row [] 0) later_differ 4 c.args.bytes.now (omega arith) c.same-5.ensures c.if-same-5.true)
 
 pub returns : goal.returns
 unfolding attribute_names found

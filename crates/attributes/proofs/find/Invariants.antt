@@ -1,0 +1,13 @@
+-- `attributes::find` meets its contract. The loop's invariant: the search over the section finds what it finds from here on. Assumes nothing.
+use Prim.Native.Nat.{◌-◌, ◌≤◌}
+use mathlib.Core.Path.{◌≡◌}
+use lib.ListN.{length, drop}
+use Rattle.attributes.specs.Finding.{find_of}
+use Rattle.attributes.proofs.Finding.{find_from}
+use Rattle.attributes.proofs.find.Given as goal
+
+abbrev pub invariant-loop-at : goal.invariant-loop-at
+invariant-loop-at l = (l.at ≤ length l.s) × (find_from l.code l.at (drop l.at l.s) ≡ find_of l.code l.s)
+
+abbrev pub decreases-loop-at : goal.decreases-loop-at
+decreases-loop-at l = length l.s - l.at
