@@ -5,6 +5,8 @@ pub mod MeaningLoops
 pub mod MeaningMembers
 pub mod MeaningPatterns
 pub mod NumberReads
+pub mod Ranges
 pub mod Returns
 pub mod SegmentReads
 pub mod Segments
+pub mod Table

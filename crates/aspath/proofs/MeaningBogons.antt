@@ -1,14 +1,33 @@
--- What `some_bogon` decides: some number of a path lies in the table; and member by member. Assumes nothing.
+-- What `is_bogon` and `some_bogon` decide: a number lies in a range of the table, and some number of a path does. Assumes nothing.
 use Prim.Native.Nat.{ℕ}
-use mathlib.Core.Path.{◌≡◌, ◌∙◌}
-use mathlib.Core.Bool.{true, false}
-use mathlib.Core.List.{List, [], ◌∷◌}
-use Rattle.octets.proofs.Some.{passes_sound, passes_complete, passes_none, passes_here, passes_later}
-use Rattle.bogons.specs.Bogons.{is_bogon}
-use Rattle.bogons.proofs.Meaning.{bogon_sound, bogon_complete}
-use Rattle.aspath.specs.Members.{Member, member_of}
-use Rattle.aspath.specs.Bogons.{HasBogon, some_bogon}
-use Rattle.aspath.proofs.MeaningMembers.{held_sound, held_complete, alone_held}
+use mathlib.Core.Path.{◌≡◌}
+use mathlib.Core.Bool.{true}
+use mathlib.Core.List.{List}
+use borrow.Author.Tests.{leb-true, le-leb}
+use Rattle.octets.proofs.Choices.{pick_both}
+use Rattle.octets.proofs.Some.{passes_sound, passes_complete}
+use Rattle.aspath.specs.declared.Range.{Range}
+use Rattle.aspath.specs.Members.{Member}
+use Rattle.aspath.specs.Bogons.{Within, Bogon, HasBogon, in_range, is_bogon, some_bogon}
+use Rattle.aspath.proofs.MeaningMembers.{held_sound, held_complete}
+
+-- a number that was found in a range lies in it
+range_sound : (n : ℕ) (r : Range) → in_range n r ≡ true → Within n r
+range_sound n r e = let b = (pick_both _ _).0 e in record { above = leb-true _ _ b.0; below = leb-true _ _ b.1 }
+
+-- and none is missed
+range_complete : (n : ℕ) (r : Range) → Within n r → in_range n r ≡ true
+range_complete n r x = (pick_both _ _).1 (le-leb _ _ x.above, le-leb _ _ x.below)
+
+-- a number that was found in the table is a bogon
+pub bogon_sound : {n : ℕ} → is_bogon n ≡ true → Bogon n
+unfolding is_bogon
+bogon_sound {n} e = record { listed = passes_sound (range_sound n) e }
+
+-- and none is missed
+pub bogon_complete : {n : ℕ} → Bogon n → is_bogon n ≡ true
+unfolding is_bogon
+bogon_complete {n} b = passes_complete (range_complete n) b.listed
 
 -- a path where a bogon was found has one
 pub some_sound : {path : List Member} → some_bogon path ≡ true → HasBogon path
@@ -19,19 +38,3 @@ some_sound e = record { some = passes_sound (λ m h. held_sound (λ n. bogon_sou
 pub some_complete : {path : List Member} → HasBogon path → some_bogon path ≡ true
 unfolding some_bogon
 some_complete x = passes_complete (λ m h. held_complete (λ n. bogon_complete) h) x.some
-
--- no members have no bogon
-pub bogon_none : some_bogon [] ≡ false
-unfolding some_bogon
-bogon_none = passes_none _
-
-module _ (n : ℕ) (ms : List Member) where
-  -- the number of the first member is one
-  pub bogon_here : is_bogon n ≡ true → some_bogon (member_of n ∷ ms) ≡ true
-  unfolding some_bogon
-  bogon_here e = passes_here _ (member_of n) ms (alone_held n is_bogon ∙ e)
-
-  -- it isn't
-  pub bogon_later : is_bogon n ≡ false → some_bogon (member_of n ∷ ms) ≡ some_bogon ms
-  unfolding some_bogon
-  bogon_later e = passes_later _ (member_of n) ms (alone_held n is_bogon ∙ e)

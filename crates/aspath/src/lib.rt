@@ -7,7 +7,7 @@ ghost use Rattle.aspath.specs.Members.{member_of};
 ghost use Rattle.aspath.specs.Wire.{width_bytes, widest, segment_size, members_of};
 ghost use Rattle.aspath.specs.Cursors.{next_at};
 ghost use Rattle.aspath.specs.Loops.{has_loop};
-ghost use Rattle.aspath.specs.Bogons.{some_bogon};
+ghost use Rattle.aspath.specs.Bogons.{is_bogon, some_bogon};
 ghost use Rattle.aspath.specs.Patterns.{fits};
 
 // The types of a segment (RFC 4271, section 4.3).
@@ -51,6 +51,51 @@ pub enum Item {
     Other(u32),
     Any,
 }
+
+// A range of AS numbers.
+#[derive(Clone, Copy)]
+pub struct Range {
+    pub low: u32,
+    pub high: u32,
+}
+
+const BOGON_RANGES: usize = 9;
+
+const BOGONS: [Range; BOGON_RANGES] = [
+    Range { low: 0, high: 0 },
+    Range {
+        low: 23456,
+        high: 23456,
+    },
+    Range {
+        low: 64496,
+        high: 64511,
+    },
+    Range {
+        low: 64512,
+        high: 65534,
+    },
+    Range {
+        low: 65535,
+        high: 65535,
+    },
+    Range {
+        low: 65536,
+        high: 65551,
+    },
+    Range {
+        low: 65552,
+        high: 131071,
+    },
+    Range {
+        low: 4200000000,
+        high: 4294967294,
+    },
+    Range {
+        low: 4294967295,
+        high: 4294967295,
+    },
+];
 
 pub fn width_bytes(width: Width) -> usize
     ensures { (result ≡ width_bytes width) × (result ≤ widest) }
@@ -189,6 +234,22 @@ pub fn loops(s: &[u8], width: Width) -> bool
     true
 }
 
+pub fn bogon(n: u32) -> bool
+    ensures { result ≡ is_bogon n }
+{
+    let mut i = 0;
+    while i < BOGON_RANGES {
+        let r = BOGONS[i];
+        if r.low <= n {
+            if n <= r.high {
+                return true;
+            }
+        }
+        i += 1;
+    }
+    false
+}
+
 // Whether some number of the path is a bogon.
 pub fn has_bogon(s: &[u8], width: Width) -> bool
     ensures { result ≡ some_bogon (members_of (width_bytes width) s.now) }
@@ -200,8 +261,7 @@ pub fn has_bogon(s: &[u8], width: Width) -> bool
         let Next::Member(n, after) = here else {
             break;
         };
-        let lookup = bogons::look_up(n);
-        if lookup.found {
+        if bogon(n) {
             return true;
         }
         c = after;

@@ -12,7 +12,7 @@ use Rattle.octets.proofs.Choices.{never}
 use Rattle.octets.proofs.Some.{at_within}
 use Rattle.aspath.specs.declared.Width.TheVariants.{Four}
 use Rattle.aspath.specs.Members.{Member, itself}
-use Rattle.bogons.specs.Bogons.{range, bogons}
+use Rattle.aspath.specs.Bogons.{range, bogons}
 use Rattle.message.specs.Message.{Message}
 use Rattle.message.specs.Represents.{Represents}
 use Rattle.line.specs.Line.{lines_of}

@@ -1,4 +1,6 @@
 // One MRT record taken apart: a message's parts, or the refusal 11 to 18.
+#![tactic(auto)]
+
 ghost use Rattle.std.specs.Prelude.{◌≡◌, ◌≤◌, ◌+◌, length};
 ghost use Rattle.message.specs.Represents.{marker_size};
 ghost use Rattle.message.specs.Fields.{width_of, frame_start, frame, message_type, body_start, body, withdrawn_size, attributes_size};

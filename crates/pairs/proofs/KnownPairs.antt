@@ -7,8 +7,8 @@ use Rattle.octets.proofs.Choices.{never}
 use Rattle.network.specs.Networks.{address_bits}
 use Rattle.network.specs.declared.Relation.TheVariants.{Exact, Subnet}
 use Rattle.aspath.specs.declared.Item.TheVariants.{Number}
-use Rattle.bogons.specs.Bogons.{is_bogon}
-use Rattle.bogons.proofs.Meaning.{bogon_sound, bogon_complete}
+use Rattle.aspath.specs.Bogons.{is_bogon}
+use Rattle.aspath.proofs.MeaningBogons.{bogon_sound, bogon_complete}
 use Rattle.program.specs.Readings.{by_as, either_side, withdrawn, path_matches, peer_is, has_loop, has_bogon, network_is, and, Reading, test, neg, joint, verdict, spent}
 use Rattle.filter.specs.declared.Refusal.{Refusal}
 use Rattle.filter.specs.declared.Refusal.TheVariants.{Token as BadToken}

@@ -7,8 +7,7 @@ use mathlib.Core.List.{List}
 use Rattle.network.specs.Networks.{agree, covers, relates, cleared}
 use Rattle.aspath.specs.Members.{members, holds, some_held}
 use Rattle.aspath.specs.Loops as loops
-use Rattle.bogons.specs.Bogons.{bogons, is_bogon}
-use Rattle.aspath.specs.Bogons.{some_bogon}
+use Rattle.aspath.specs.Bogons.{bogons, is_bogon, some_bogon}
 use Rattle.aspath.specs.Patterns.{matches_here, matches_some}
 use Rattle.attributes.specs.Attribute.{first_of, ask_path}
 use Rattle.message.specs.Message.{Message}

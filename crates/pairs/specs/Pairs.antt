@@ -1,6 +1,6 @@
 -- The known pairs of document 01 that are to be proved (those with a star), as one list under one claim.
 use Rattle.std.specs.Prelude.{ℕ, ◌*◌, ◌≡◌, List, [], ◌∷◌}
-use Rattle.bogons.specs.Bogons.{Bogon}
+use Rattle.aspath.specs.Bogons.{Bogon}
 use Rattle.message.specs.Message.{Message}
 use Rattle.message.specs.Represents.{Represents}
 use Rattle.program.specs.Spent.{spending}

@@ -48,14 +48,13 @@ const FORMS: [Form; 7] = [
         spoilt: &[("leading_zeros", "trailing_zeros"), ("^", "&")],
     },
     Form {
-        name: "bogons",
+        name: "aspath",
         asks: "a const table of nine low and high bounds, searched by the bogon test",
         stands: bogon_table,
         spoilt: &[
             ("const BOGONS", "fn bogons"),
             ("Range { low: 0, high: 0 },", ""),
-            ("let table = BOGONS;", "let table = ranges();"),
-            ("n < table[5].low", "n < 65536"),
+            ("BOGONS[", "range_of("),
         ],
     },
     Form {
@@ -196,19 +195,18 @@ fn leading_zeros(network: &str) -> Option<bool> {
     Some(compared.ends_with(normal(".len <=").trim_end()) && has(&format!(" {argument}"), "^"))
 }
 
-fn bogon_table(bogons: &str) -> Option<bool> {
-    let (rows, _) = behind(bogons, "const BOGONS: [Range; BOGON_RANGES] = [")?.split_once(']')?;
-    let (_, range, _) = braced(behind(bogons, "struct Range")?)?;
-    let (_, test) = function(bogons, "look_up")?;
+fn bogon_table(aspath: &str) -> Option<bool> {
+    let (rows, _) = behind(aspath, "const BOGONS: [Range; BOGON_RANGES] = [")?.split_once(']')?;
+    let (_, range, _) = braced(behind(aspath, "struct Range")?)?;
+    let (_, test) = function(aspath, "bogon")?;
     Some(
-        has(bogons, "const BOGON_RANGES: usize = 9;")
+        has(aspath, "const BOGON_RANGES: usize = 9;")
             && count(rows, "Range { low:") == 9
             && count(rows, ", high:") == 9
             && has(range, "low: u32")
             && has(range, "high: u32")
-            && has(test, "let table = BOGONS;")
-            && has(test, "n < table[")
-            && count(test, "n <") == count(test, "n < table["),
+            && has(test, "while")
+            && has(test, "BOGONS["),
     )
 }
 

@@ -35,9 +35,11 @@ pub loop-at-preserved : goal.loop-at-preserved
 loop-at-preserved c = let s = c.args.s.now in
     let l = c.loop-at in
     let w = c.width_bytes-w.result in
-    let z = c.sized_segment-size.ensures in
-    (fits w l.at _ s z l.invariant.0, rw (z, ← drop-drop (segment_size w (drop l.at s)) l.at s)
-    (sym (whole_next (segment_size w) (segment_sizes w) (drop l.at s) (λ e. c.if-size-eq0.false (z ∙ e))) ∙ l.invariant.1))
+    let z = c.sized_segment-size.ensures in (
+      fits w l.at _ s z l.invariant.0,
+      rw (z, ← drop-drop (segment_size w (drop l.at s)) l.at s)
+          (sym (whole_next (segment_size w) (segment_sizes w) (drop l.at s) (λ e. c.if-size-eq0.false (z ∙ e))) ∙ l.invariant.1),
+    )
 
 pub returns : goal.returns
 returns c = let s = c.args.s.now in
