@@ -3,15 +3,10 @@ use Prim.Native.Nat.{ℕ, ◌*◌, ◌≤◌, ◌<◌}
 use native.Mathlib.Nat.{le_antisymm}
 use native.Mathlib.Omega.{arith}
 use mathlib.Core.Path.{◌≡◌, refl, sym, ap, ◌∙◌}
-use mathlib.Core.Bool.{not}
 use mathlib.Core.List.{List, [], ◌∷◌, ◌++◌}
 use lib.ListN.{length}
-use lib.Dec.{T}
 use lib.Seq.{sets}
 use borrow.Author.Tests.{lt-ltb, le-ltb}
-use mir.Val.{has_key}
-use types.Run.{OneOf, miss}
-use denote.Enum.Declared.{tag_of}
 use Rattle.octets.proofs.Writes.{sets_start}
 use Rattle.program.specs.Layout.{record_size}
 use Rattle.program.specs.Records.{weight_limit}
@@ -25,7 +20,6 @@ use Rattle.token.specs.Next.{left, Closed, next_at, allowed_front, unclosed_at}
 use Rattle.token.specs.declared.Sort.TheVariants.{End}
 use Rattle.token.specs.declared.Lexeme.{Lexeme}
 use Rattle.token.proofs.Again.{left_again}
-use Rattle.token.specs.contracts.Sort as sorts
 use Rattle.token.proofs.Lexing.{read_unclosed}
 use Rattle.token.proofs.Nexts.{closed_lexed, unclosed_closed, unclosed_found, unclosed_most}
 use Rattle.filter.specs.Grammar.{expression}
@@ -103,9 +97,9 @@ module _ {text : List ℕ} {t : Lexeme} (short : length text ≤ text_limit) (cl
       behind = read_ready whole_ready got
 
       -- a token is left behind it
-      pub whole_rest : (ks : List ℕ) → T (not (has_key ks 0)) → OneOf ks (tag_of sorts.the_type u.sort) → Whole text old (Refused aToken u.start) new
+      pub whole_rest : (u.sort ≡ End → ⊥) → Whole text old (Refused aToken u.start) new
       unfolding depth leave
-      whole_rest ks i j = whole_says_stopped refl record {
+      whole_rest j = whole_says_stopped refl record {
         why = bad;
         rest = bare (from text u);
         stops = whole_begins ∙ by_run (got.runs whole refl);
@@ -116,7 +110,7 @@ module _ {text : List ℕ} {t : Lexeme} (short : length text ≤ text_limit) (cl
           by_run : (z : ReaderState) × Stood expression got.reading whole z × (run (begins expression whole) (from text t) ≡ run z (from text u))
               → run (begins expression whole) (from text t) ≡ reader.refused bad (bare (from text u))
           by_run (z, w, y) =
-              y ∙ unfinished behind (s.over u m e) whole got.reading z w (λ b. refl) (λ b. absurd (miss ks 0 i (rw b at j)))
+              y ∙ unfinished behind (s.over u m e) whole got.reading z w (λ b. refl) (λ b. absurd (j b))
 
       -- none is
       pub whole_read : u.sort ≡ End → Whole text old (Upto u m) new

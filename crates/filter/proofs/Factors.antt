@@ -2,15 +2,10 @@
 use Prim.Native.Nat.{ℕ, suc, ◌+◌, ◌*◌, ◌≤◌, ◌<◌}
 use native.Mathlib.Omega.{arith}
 use mathlib.Core.Path.{◌≡◌, refl, ap, ◌∙◌}
-use mathlib.Core.Bool.{not}
 use mathlib.Core.Option.{Option, some, none}
 use mathlib.Core.Logic.{◌⊎◌, inl, inr}
 use mathlib.Core.List.{List}
 use lib.Seq.{sets}
-use lib.Dec.{T}
-use types.Run.{OneOf, miss}
-use mir.Val.{has_key}
-use denote.Enum.Declared.{tag_of}
 use Rattle.octets.specs.Writes.{Written}
 use Rattle.program.specs.declared.Fields.{Fields}
 use Rattle.program.specs.Readings.{and, or, Reading, neg, weight}
@@ -21,7 +16,6 @@ use Rattle.token.specs.Tokens.{Token, open', close, bang, word, quoted}
 use Rattle.token.specs.Next.{next_at, bytes_in, token_in}
 use Rattle.token.specs.declared.Sort.TheVariants.{End, Close}
 use Rattle.token.specs.declared.Lexeme.{Lexeme}
-use Rattle.token.specs.contracts.Sort as sorts
 use Rattle.token.proofs.Nexts.{sort_token}
 use Rattle.filter.specs.Words.{Role, joins, flag, name, role_of}
 use Rattle.filter.specs.Grammar.{Part, expression, conjunction, factor}
@@ -35,7 +29,7 @@ use Rattle.filter.specs.declared.Parsed.TheVariants.{Upto, Refused}
 use Rattle.filter.proofs.Complete.{close_moves}
 use Rattle.filter.proofs.Overlay.{wrote_flip}
 use Rattle.filter.proofs.Steps.{run_none, end_none, token_within, ready_next, next_behind, from_next, fewer_next, run_takes, run_opens, run_stuck, run_deep, start_token, stopped_here, passed_next, passed_both}
-use Rattle.filter.proofs.ReadyTokens.{end_or_token, start_here, next_ready, close_tag}
+use Rattle.filter.proofs.ReadyTokens.{end_or_token, start_here, next_ready, close_sort}
 use Rattle.filter.proofs.Parts.{read_ready, stopped_in, says_read, says_stopped}
 
 -- what a token opens
@@ -153,9 +147,9 @@ module _ {text old new : List ℕ} {t l u : Lexeme} {lv n m : ℕ} {r : Parsed} 
   inner_ready = read_ready (next_ready ready token refl) inner
 
   -- no `)` follows
-  pub group_stops : (ks : List ℕ) → T (not (has_key ks 2)) → OneOf ks (tag_of sorts.the_type u.sort) → PartSays factor text lv t n old (Refused aToken u.start) new
+  pub group_stops : (u.sort ≡ Close → ⊥) → PartSays factor text lv t n old (Refused aToken u.start) new
   unfolding leave end
-  group_stops ks i j = says_stopped refl record {
+  group_stops j = says_stopped refl record {
     why = bad;
     front = (passed_both (passed_next ready token) inner.passed).front;
     rest = from text u;
@@ -171,7 +165,7 @@ module _ {text old new : List ℕ} {t l u : Lexeme} {lv n m : ℕ} {r : Parsed} 
           → run (begins factor h) (from text t) ≡ refused bad (bare (from text u))
       by_run h k (z, w, y) =
           inside_wanted ready a_group token d h k
-          ∙ (y ∙ unfinished inner_ready (s.over u m x) (grouping h) inner.reading z w (λ b. absurd (miss ks 2 i (rw (close_tag u.sort (bytes_in text u) b) at j))) (λ b. refl))
+          ∙ (y ∙ unfinished inner_ready (s.over u m x) (grouping h) inner.reading z w (λ b. absurd (j (close_sort u.sort (bytes_in text u) b))) (λ b. refl))
 
   -- `)` follows
   pub group : {v : Lexeme} → u.sort ≡ Close → v ≡ next_at text u.end → PartSays factor text lv t n old (Upto v m) new

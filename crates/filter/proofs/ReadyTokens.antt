@@ -2,15 +2,11 @@
 use Prim.Native.Nat.{ℕ, ◌+◌, ◌≤◌, ◌<◌}
 use native.Mathlib.Omega.{arith}
 use mathlib.Core.Path.{◌≡◌, refl, sym, ap, ◌∙◌}
-use mathlib.Core.Bool.{not, Bool, true, false}
+use mathlib.Core.Bool.{Bool, true, false}
 use mathlib.Core.Option.{Option, some, none}
 use mathlib.Core.Logic.{◌⊎◌, inl, inr}
-use mathlib.Core.List.{List, [], ◌∷◌}
+use mathlib.Core.List.{List}
 use lib.ListN.{length}
-use lib.Dec.{T}
-use types.Run.{OneOf, miss}
-use mir.Val.{has_key}
-use denote.Enum.Declared.{tag_of}
 use Rattle.program.specs.Readings.{Operator, and, or}
 use Rattle.token.specs.Texts.{text_limit}
 use Rattle.token.specs.Tokens.{Word, Token, open', close, bang, word, quoted}
@@ -18,14 +14,13 @@ use Rattle.token.specs.Next.{next_at, bytes_in, token_of, token_in}
 use Rattle.token.specs.declared.Sort.{Sort}
 use Rattle.token.specs.declared.Sort.TheVariants.{End, Open, Close, Bang, Word as aWord, Quoted, Unclosed}
 use Rattle.token.specs.declared.Lexeme.{Lexeme}
-use Rattle.token.specs.contracts.Sort as sorts
 use Rattle.token.proofs.Nexts.{sort_token, next_closed, next_token}
 use Rattle.filter.specs.Words.{Role, joins, flag, name, role_of}
 use Rattle.filter.specs.Answering.{start_of}
 use Rattle.filter.specs.Parsing.{role_said, role_in, first_role, from, Ready, opens_level}
+use Rattle.operand.specs.declared.Name.{Name}
 use Rattle.filter.specs.declared.Role.{Role as Said}
 use Rattle.filter.specs.declared.Role.TheVariants.{And, Or, Loops, Bogons, Named, Unknown}
-use Rattle.filter.specs.contracts.Role as roles
 use Rattle.filter.proofs.Steps.{end_none, ready_next, from_next, fewer_next, start_token, start_end}
 
 module _ {text : List ℕ} {t : Lexeme} {n : ℕ} (ready : Ready text t n) where
@@ -95,46 +90,45 @@ module _ {text : List ℕ} {t : Lexeme} {n : ℕ} (ready : Ready text t n) {a : 
   pub next_fewer : length (from text l) < length (from text t)
   next_fewer = rw next (fewer_next ready token)
 
--- ---- sorts and roles by their tags
+-- ---- sorts and roles
 
--- the tag of an answer that says an operator
-abbrev operator_tag : Operator → ℕ
-operator_tag and = 0
-operator_tag or = 1
+-- the answer that says an operator
+abbrev pub operator_said : Operator → Said
+operator_said and = And
+operator_said or = Or
 
--- an answer that says an operator has its tag
-joint_tag : (o : Operator) (r : Said) → role_said r ≡ some (joins o) → tag_of roles.the_type r ≡ operator_tag o
-joint_tag o And e = let x : and ≡ o = cc in ap operator_tag x
-joint_tag o Or e = let x : or ≡ o = cc in ap operator_tag x
-joint_tag o Loops e = let z : ◌≡◌ {A = ℕ} 0 1 = cc in absurd (omega arith)
-joint_tag o Bogons e = let z : ◌≡◌ {A = ℕ} 0 1 = cc in absurd (omega arith)
-joint_tag o (Named k) e = let z : ◌≡◌ {A = ℕ} 0 1 = cc in absurd (omega arith)
-joint_tag o Unknown e = let z : ◌≡◌ {A = ℕ} 0 1 = cc in absurd (omega arith)
+-- an answer that says an operator is that one
+joint_said : (o : Operator) (r : Said) → role_said r ≡ some (joins o) → r ≡ operator_said o
+joint_said o And e = let x : and ≡ o = cc in ap operator_said x
+joint_said o Or e = let x : or ≡ o = cc in ap operator_said x
+joint_said o Loops e = let z : ◌≡◌ {A = ℕ} 0 1 = cc in absurd (omega arith)
+joint_said o Bogons e = let z : ◌≡◌ {A = ℕ} 0 1 = cc in absurd (omega arith)
+joint_said o (Named k) e = let z : ◌≡◌ {A = ℕ} 0 1 = cc in absurd (omega arith)
+joint_said o Unknown e = let z : ◌≡◌ {A = ℕ} 0 1 = cc in absurd (omega arith)
 
--- an answer with another tag says no such operator
-pub not_joint : (o : Operator) (ks : List ℕ) → T (not (has_key ks (operator_tag o))) → {x : Option Role} (r : Said) → role_said r ≡ x → OneOf ks (tag_of roles.the_type r)
-    → x ≡ some (joins o) → ⊥
-not_joint o ks m r s k e = miss ks (operator_tag o) m (rw (joint_tag o r (s ∙ e)) at k)
+-- another answer says no such operator
+pub not_joint : (o : Operator) {x : Option Role} (r : Said) → role_said r ≡ x → (r ≡ operator_said o → ⊥) → x ≡ some (joins o) → ⊥
+not_joint o r s n e = n (joint_said o r (s ∙ e))
 
 -- `)` has its sort
-pub close_tag : (k : Sort) (w : Word) → token_of k w ≡ some close → tag_of sorts.the_type k ≡ 2
-close_tag End w e = let z : ◌≡◌ {A = ℕ} 0 1 = cc in absurd (omega arith)
-close_tag Open w e = let z : ◌≡◌ {A = ℕ} 0 1 = cc in absurd (omega arith)
-close_tag Close w e = refl
-close_tag Bang w e = let z : ◌≡◌ {A = ℕ} 0 1 = cc in absurd (omega arith)
-close_tag aWord w e = let z : ◌≡◌ {A = ℕ} 0 1 = cc in absurd (omega arith)
-close_tag Quoted w e = let z : ◌≡◌ {A = ℕ} 0 1 = cc in absurd (omega arith)
-close_tag Unclosed w e = let z : ◌≡◌ {A = ℕ} 0 1 = cc in absurd (omega arith)
+pub close_sort : (k : Sort) (w : Word) → token_of k w ≡ some close → k ≡ Close
+close_sort End w e = let z : ◌≡◌ {A = ℕ} 0 1 = cc in absurd (omega arith)
+close_sort Open w e = let z : ◌≡◌ {A = ℕ} 0 1 = cc in absurd (omega arith)
+close_sort Close w e = refl
+close_sort Bang w e = let z : ◌≡◌ {A = ℕ} 0 1 = cc in absurd (omega arith)
+close_sort aWord w e = let z : ◌≡◌ {A = ℕ} 0 1 = cc in absurd (omega arith)
+close_sort Quoted w e = let z : ◌≡◌ {A = ℕ} 0 1 = cc in absurd (omega arith)
+close_sort Unclosed w e = let z : ◌≡◌ {A = ℕ} 0 1 = cc in absurd (omega arith)
 
 -- where `(` and `!` are dealt with, no level is opened
-pub no_level : (k : Sort) → OneOf (0 ∷ 2 ∷ 4 ∷ 5 ∷ 6 ∷ []) (tag_of sorts.the_type k) → opens_level k ≡ false
-no_level End o = refl
-no_level Open o = absurd (miss (0 ∷ 2 ∷ 4 ∷ 5 ∷ 6 ∷ []) 1 tt o)
-no_level Close o = refl
-no_level Bang o = absurd (miss (0 ∷ 2 ∷ 4 ∷ 5 ∷ 6 ∷ []) 3 tt o)
-no_level aWord o = refl
-no_level Quoted o = refl
-no_level Unclosed o = refl
+pub no_level : (k : Sort) → (k ≡ Bang → ⊥) → (k ≡ Open → ⊥) → opens_level k ≡ false
+no_level End b o = refl
+no_level Open b o = absurd (o refl)
+no_level Close b o = refl
+no_level Bang b o = absurd (b refl)
+no_level aWord b o = refl
+no_level Quoted b o = refl
+no_level Unclosed b o = refl
 
 -- a role that no test has
 abbrev pub no_test : Option Role → Bool
@@ -144,10 +138,10 @@ no_test (some (flag x)) = false
 no_test (some (name k)) = false
 
 -- a word that is said to name no test
-pub no_test_said : (r : Said) → OneOf (0 ∷ 1 ∷ 5 ∷ []) (tag_of roles.the_type r) → no_test (role_said r) ≡ true
-no_test_said And o = refl
-no_test_said Or o = refl
-no_test_said Loops o = absurd (miss (0 ∷ 1 ∷ 5 ∷ []) 2 tt o)
-no_test_said Bogons o = absurd (miss (0 ∷ 1 ∷ 5 ∷ []) 3 tt o)
-no_test_said (Named k) o = absurd (miss (0 ∷ 1 ∷ 5 ∷ []) 4 tt o)
-no_test_said Unknown o = refl
+pub no_test_said : (r : Said) → (r ≡ Loops → ⊥) → (r ≡ Bogons → ⊥) → ((k : Name) → r ≡ Named k → ⊥) → no_test (role_said r) ≡ true
+no_test_said And l b n = refl
+no_test_said Or l b n = refl
+no_test_said Loops l b n = absurd (l refl)
+no_test_said Bogons l b n = absurd (b refl)
+no_test_said (Named k) l b n = absurd (n k refl)
+no_test_said Unknown l b n = refl

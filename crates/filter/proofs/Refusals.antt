@@ -16,7 +16,7 @@ use Rattle.filter.specs.Levels.{open_at, Open}
 use Rattle.filter.specs.Answers.{Alive, Leads, Opener, Has, bad_token, bad_operand, too_deep}
 use Rattle.filter.specs.declared.Refusal.{Refusal}
 use Rattle.filter.specs.Answering.{refusal_of}
-use Rattle.filter.specs.Reader.{depth, ReaderState, operand, level, Why, bad, broken, deep, Move, takes, opens, stuck, breaks, Step, go, stop, came, ReaderAnswer, ok, refused, admit, follow, finish, conclude, answered, start, move, step, walk, read}
+use Rattle.filter.specs.Reader.{depth, ReaderState, level, Why, bad, broken, deep, Move, takes, opens, stuck, breaks, Step, go, stop, came, ReaderAnswer, ok, refused, admit, follow, finish, conclude, answered, start, move, step, walk, read}
 use Rattle.filter.proofs.Walks.{no_came, step_takes, step_opens, walk_go, walk_stop, walk_join, wider}
 use Rattle.filter.proofs.Complete.{derived_walks, complete}
 use Rattle.filter.proofs.Leveled.{Leveled, move_level, walk_within}

@@ -13,7 +13,7 @@ use Rattle.program.specs.Readings.{weight, Test, test}
 use Rattle.program.specs.Layout.{record_size, laid, head_fields, fields_of, encode_all}
 use Rattle.program.specs.Compiling.{program_of, head_of, items_of, following_of, records}
 use Rattle.token.specs.Texts.{text_limit}
-use Rattle.token.specs.Tokens.{Token, word, placed}
+use Rattle.token.specs.Tokens.{word, placed}
 use Rattle.token.specs.Next.{next_at, bytes_in, token_in, Closed}
 use Rattle.token.specs.declared.Sort.{Sort}
 use Rattle.token.specs.declared.Sort.TheVariants.{End, Open, Close, Bang, Quoted, Unclosed, Word}

@@ -1,10 +1,12 @@
 // Filters: from a text to its program.
+#![tactic(auto)]
+
 ghost use Rattle.std.specs.Prelude.{◌≡◌, false, ◌≤◌, ◌<◌, ◌+◌, length};
 ghost use Rattle.std.proofs.Math.Option.{some};
 ghost use Rattle.token.specs.Texts.{text_limit};
 ghost use Rattle.token.specs.Next.{Closed, token_in};
-ghost use Rattle.filter.specs.Words.{role_of, name as a-name};
-ghost use Rattle.filter.specs.Grammar.{expression as an-expression, conjunction as a-conjunction, factor as a-factor};
+ghost use Rattle.filter.specs.Words.{role_of, name as a_name};
+ghost use Rattle.filter.specs.Grammar.{expression as an_expression, conjunction as a_conjunction, factor as a_factor};
 ghost use Rattle.filter.specs.Levels.{level_limit};
 ghost use Rattle.filter.specs.Answers.{number_of};
 ghost use Rattle.filter.specs.Functions.{compiling_of, our_compiler};
@@ -170,7 +172,7 @@ fn is_operand(sort: Sort) -> bool
 
 // A test that has an operand, which is the token behind its name.
 fn named(text: &[u8], name: Name, word: Lexeme, out: &mut [u8], n: usize) -> Parsed
-    requires { Ready text.now word n × (role_in (token_in text.now word) ≡ some (a-name name)) }
+    requires { Ready text.now word n × (role_in (token_in text.now word) ≡ some (a_name name)) }
     ensures { TestSays text.now word n out.old result out.new }
 {
     let t = token::next(text, word.end);
@@ -231,7 +233,7 @@ fn test(text: &[u8], t: Lexeme, out: &mut [u8], n: usize) -> Parsed
 #[cycle(conjunction_expression_factor)]
 fn factor(text: &[u8], level: usize, t: Lexeme, out: &mut [u8], n: usize) -> Parsed
     requires { (level ≤ level_limit) × Ready text.now t n }
-    ensures { PartSays a-factor text.now level t n out.old result out.new }
+    ensures { PartSays a_factor text.now level t n out.old result out.new }
 {
     let sort = t.sort;
     match sort {
@@ -280,7 +282,7 @@ fn factor(text: &[u8], level: usize, t: Lexeme, out: &mut [u8], n: usize) -> Par
 #[cycle(conjunction_expression_factor)]
 fn conjunction(text: &[u8], level: usize, t: Lexeme, out: &mut [u8], n: usize) -> Parsed
     requires { (level ≤ level_limit) × Ready text.now t n }
-    ensures { PartSays a-conjunction text.now level t n out.old result out.new }
+    ensures { PartSays a_conjunction text.now level t n out.old result out.new }
 {
     let r = factor(text, level, t, out, n);
     let Parsed::Upto { next: first, n: m0 } = r else {
@@ -311,7 +313,7 @@ fn conjunction(text: &[u8], level: usize, t: Lexeme, out: &mut [u8], n: usize) -
 #[cycle(conjunction_expression_factor)]
 fn expression(text: &[u8], level: usize, t: Lexeme, out: &mut [u8], n: usize) -> Parsed
     requires { (level ≤ level_limit) × Ready text.now t n }
-    ensures { PartSays an-expression text.now level t n out.old result out.new }
+    ensures { PartSays an_expression text.now level t n out.old result out.new }
 {
     let r = conjunction(text, level, t, out, n);
     let Parsed::Upto { next: first, n: m0 } = r else {

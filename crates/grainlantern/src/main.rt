@@ -39,7 +39,9 @@ fn read_file<R: Read>(file: &mut R, room: &mut [u8]) -> usize {
 }
 
 // Reads until the room is full, the input ends or a read fails, and answers the bytes read.
-fn read_input<R: Read>(input: &mut R, room: &mut [u8]) -> usize {
+fn read_input<R: Read>(input: &mut R, room: &mut [u8]) -> usize
+    ensures { result ≤ length room.new }
+{
     let mut length = 0;
     while length < room.len() {
         match input.read(&mut room[length..]) {

@@ -16,7 +16,7 @@ use Rattle.operand.specs.Addresses.{NetworkOperand, network_operand}
 use Rattle.operand.specs.Peers.{PeerOperand, peer_operand}
 use Rattle.operand.specs.Patterns.{PatternOperand, pattern_operand}
 use Rattle.operand.specs.Communities.{CommunitiesOperand, communities_operand}
-use Rattle.operand.specs.Times.{TimeOperand, comparison, time_operand}
+use Rattle.operand.specs.Times.{TimeOperand, time_operand}
 use Rattle.operand.specs.declared.Meant.{Meant}
 use Rattle.operand.specs.declared.Meant.TheVariants.{Head, Broken}
 use Rattle.operand.specs.declared.Name.{Name}
