@@ -3,12 +3,11 @@ use Prim.Native.Nat.{ℕ, zero, suc, ◌+◌, ◌*◌, ◌≤◌, ◌<◌}
 use native.Mathlib.Omega.{arith}
 use mathlib.Core.Path.{◌≡◌, refl, sym, ap, ◌∙◌}
 use mathlib.Core.Bool.{Bool, not}
-use mathlib.Core.Option.{Option, some}
-use mathlib.Core.List.{List, [], ◌∷◌, ◌++◌}
+use mathlib.Core.Option.{some}
+use mathlib.Core.List.{List, ◌∷◌, ◌++◌}
 use lib.ListN.{length, get_or, take, drop, length-drop, drop_of_length-le}
 use lib.Seq.{drop-drop, drop-cons}
 use Rattle.octets.specs.Choice.{pick}
-use Rattle.octets.specs.Numbers.{Octets}
 use Rattle.octets.proofs.Every.{every_place, every_drop}
 use Rattle.message.specs.Message.{Message}
 use Rattle.program.specs.declared.Fields.{Fields}
@@ -17,11 +16,10 @@ use Rattle.program.specs.declared.Class.{Class}
 use Rattle.program.specs.declared.Class.TheVariants.{Test as aTest, Item as an_item, Flip as aFlip, Pass as aPass, Unknown as unknown}
 use Rattle.program.specs.Spent.{one_step, together}
 use Rattle.program.specs.Readings.{and, or, open'}
-use Rattle.program.specs.Records.{Head, Record, head, item, flip, pass, count_of}
+use Rattle.program.specs.Records.{Record, head, item, flip, pass, count_of}
 use Rattle.program.specs.Kinds.{class_of, class_is}
-use Rattle.program.specs.Layout.{record_size, fields_of, head_fields, encode, encode_all, fields_in, decode, records_in}
+use Rattle.program.specs.Layout.{record_size, fields_of, encode, encode_all, fields_in, decode, records_in}
 use Rattle.program.specs.Machine.{exec}
-use Rattle.program.specs.Checks.{following_in}
 use Rattle.program.proofs.LayoutLaws.{encode_all_length, decode_encode, records_encoded}
 use Rattle.program.proofs.MachineLaws.{exec_over}
 use Rattle.program.proofs.ValidKinds.{class_kind, head_following, record_read}

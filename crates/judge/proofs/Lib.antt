@@ -4,6 +4,5 @@ pub mod Answered
 pub mod Answering
 pub mod Counting
 pub mod Execution
-pub mod Lent
 pub mod Readings
 pub mod Tallies
