@@ -1,4 +1,6 @@
 // Whether a test is true of a message.
+#![tactic(auto)]
+
 ghost use Rattle.std.specs.Prelude.{◌≡◌, true, ◌+◌, ◌*◌, ◌≤◌, drop};
 ghost use Rattle.std.proofs.Math.Option.{some};
 ghost use Rattle.network.specs.Networks.{network_in};
