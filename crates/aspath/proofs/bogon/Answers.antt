@@ -1,4 +1,5 @@
--- `aspath::bogon` meets its contract. The loop's invariant: the number is a bogon just where it lies in a range of the table from i on. Assumes nothing.
+-- `aspath::bogon` meets its contract.
+-- The loop's invariant: the number is a bogon just where it lies in a range of the table from i on. Assumes nothing.
 use native.Mathlib.Omega.{arith}
 use mathlib.Core.Path.{◌≡◌, refl, sym, ◌∙◌}
 use mathlib.Core.Logic.{inl, inr}

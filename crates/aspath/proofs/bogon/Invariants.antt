@@ -1,4 +1,5 @@
--- `aspath::bogon` meets its contract. The loop's invariant: the number is a bogon just where it lies in a range of the table from i on. Assumes nothing.
+-- `aspath::bogon` meets its contract.
+-- The loop's invariant: the number is a bogon just where it lies in a range of the table from i on. Assumes nothing.
 use Prim.Native.Nat.{◌-◌, ◌≤◌}
 use mathlib.Core.Path.{◌≡◌}
 use lib.ListN.{drop}

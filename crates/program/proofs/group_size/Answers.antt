@@ -20,12 +20,14 @@ unfolding group_size
 short_group l h = rw (lt-ltb _ _ h)
 
 -- where one does, its class decides
-class_group : (l : List ℕ) (x : Class) → record_size ≤ length l → class_is (fields_in l).kind ≡ x → group_size l ≡ group_of x (fields_in l) (drop record_size l)
+class_group : (l : List ℕ) (x : Class) → record_size ≤ length l → class_is (fields_in l).kind ≡ x
+    → group_size l ≡ group_of x (fields_in l) (drop record_size l)
 unfolding group_size
 class_group l x h e = rw (le-ltb _ _ h, e) refl
 
 -- the class that was found
-found : (x : Class) (f : Fields) (k : Class) (at : ℕ) (s : List ℕ) → record_size ≤ length s - at → f ≡ fields_in (drop at s) → k ≡ class_is f.kind → k ≡ x
+found : (x : Class) (f : Fields) (k : Class) (at : ℕ) (s : List ℕ) → record_size ≤ length s - at → f ≡ fields_in (drop at s) → k ≡ class_is f.kind
+    → k ≡ x
     → group_of x f (drop (at + record_size) s) ≡ group_size (drop at s)
 found x f k at s h e d i =
     ap (λ (l : List ℕ). group_of x f l) (sym (drop-drop record_size at s))

@@ -24,10 +24,12 @@ other_stands last zero l h k e = absurd (omega arith)
 other_stands last (suc n) l h k e = rw (le-ltb (length l) record_size k, e)
 
 -- where one stands, those after it decide
-one_stands : (last n : ℕ) (l : List ℕ) → 1 ≤ n → record_size ≤ length l → is_item last (fields_in l) ≡ true → items_stand last n l ≡ items_stand last (n - 1) (drop record_size l)
+one_stands : (last n : ℕ) (l : List ℕ) → 1 ≤ n → record_size ≤ length l → is_item last (fields_in l) ≡ true
+    → items_stand last n l ≡ items_stand last (n - 1) (drop record_size l)
 unfolding items_stand
 one_stands last zero l h k e = absurd (omega arith)
-one_stands last (suc n) l h k e = rw (le-ltb (length l) record_size k, e) (ap (λ (m : ℕ). items_stand last m (drop record_size l)) {x = n} {y = suc n - 1} (omega arith))
+one_stands last (suc n) l h k e = rw (le-ltb (length l) record_size k, e)
+    (ap (λ (m : ℕ). items_stand last m (drop record_size l)) {x = n} {y = suc n - 1} (omega arith))
 
 none_due : (last n : ℕ) (l : List ℕ) → n ≡ 0 → items_stand last n l ≡ true
 unfolding items_stand
@@ -64,7 +66,8 @@ pub loop-left-preserved : goal.loop-left-preserved
 loop-left-preserved c = let s = c.args.records.now in
     let l = c.loop-left in
     let e = sym (c.holds_item.ensures ∙ ap (is_item _) c.fields_at.ensures) ∙ c.if-not-holds_item.false in
-    (omega arith, rw (← drop-drop record_size l.at s) (sym (one_stands _ l.left (drop l.at s) (omega arith) (simp length-drop (omega arith)) e) ∙ l.invariant.1))
+    (omega arith, rw (← drop-drop record_size l.at s)
+        (sym (one_stands _ l.left (drop l.at s) (omega arith) (simp length-drop (omega arith)) e) ∙ l.invariant.1))
 
 pub returns : goal.returns
 returns c = let l = c.loop-left in

@@ -1,4 +1,5 @@
--- `program::lands` meets its contract, by the tests of its definition on the fields read; the byte that a pass lands on is a number of one byte. Assumes nothing.
+-- `program::lands` meets its contract, by the tests of its definition on the fields read; the byte that a pass lands on is a number of one byte.
+-- Assumes nothing.
 use Prim.Native.Nat.{ℕ, ◌+◌, ◌*◌, ◌≤◌, ◌<◌}
 use native.Mathlib.Omega.{arith}
 use mathlib.Core.Path.{◌≡◌, sym, ap, ◌∙◌}

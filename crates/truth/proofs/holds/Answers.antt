@@ -16,7 +16,8 @@ pub returns-then-parts-ne-UPDATE : goal.returns-then-parts-ne-UPDATE
 returns-then-parts-ne-UPDATE c = sym (other_true _ _ _ _ c.fields_at-f.ensures c.if-f-eq-TYPE.false c.if-f-eq-PEER.false c.if-f-eq-TIME.false c.if-parts-ne-UPDATE.true)
 
 pub returns-then-f-eq-NETWORK : goal.returns-then-f-eq-NETWORK
-returns-then-f-eq-NETWORK c = c.has_prefix.ensures ∙ sym (network_true _ _ _ _ c.fields_at-f.ensures c.if-parts-ne-UPDATE.false c.if-f-eq-NETWORK.true)
+returns-then-f-eq-NETWORK c = c.has_prefix.ensures ∙ sym
+    (network_true _ _ _ _ c.fields_at-f.ensures c.if-parts-ne-UPDATE.false c.if-f-eq-NETWORK.true)
 
 pub returns-then-f-eq-ATTRIBUTE : goal.returns-then-f-eq-ATTRIBUTE
 returns-then-f-eq-ATTRIBUTE c = c.has_code.ensures

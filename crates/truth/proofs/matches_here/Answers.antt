@@ -30,7 +30,8 @@ none : (n : ℕ) (l : List ℕ) → n ≡ 0 → items_in n l ≡ []
 none n l z = ap (λ (n : ℕ). items_in n l) z ∙ each_none item_of l
 
 -- the item read, and those after it
-stands : {n more : ℕ} {l : List ℕ} {i : Item} → Next item_of last_variant n more l → decode l ≡ some (item i) → items_in n l ≡ i ∷ items_in more (drop record_size l)
+stands : {n more : ℕ} {l : List ℕ} {i : Item} → Next item_of last_variant n more l → decode l ≡ some (item i)
+    → items_in n l ≡ i ∷ items_in more (drop record_size l)
 stands h e = h.all ∙ rw (one_read item_of h.decoded e refl) refl
 
 pub loop-left-init : goal.loop-left-init
@@ -82,7 +83,8 @@ loop-left-preserved c = let a = c.args in
 pub returns-then-end : goal.returns-then-end
 returns-then-end c = let a = c.args in
     let l = c.loop-left in
-    c.at_end.ensures ∙ sym (whole a.end _ _ _ (width_bytes a.width) a.path.now a.from l.c l.invariant.2 (none l.left (drop l.at a.records.now) (omega arith))
+    c.at_end.ensures ∙ sym (whole a.end _ _ _ (width_bytes a.width) a.path.now a.from l.c l.invariant.2
+        (none l.left (drop l.at a.records.now) (omega arith))
     ∙ at_last a.end (width_bytes a.width) a.path.now _ c.if-end.true)
 
 pub returns : goal.returns

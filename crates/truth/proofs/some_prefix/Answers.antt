@@ -1,4 +1,5 @@
--- `truth::some_prefix` meets its contract. The loop's invariant: some prefix of the section relates just where one from the place on does. Assumes nothing.
+-- `truth::some_prefix` meets its contract.
+-- The loop's invariant: some prefix of the section relates just where one from the place on does. Assumes nothing.
 use native.Mathlib.Omega.{arith}
 use mathlib.Core.Path.{refl, sym, ap, ◌∙◌}
 use lib.ListN.{drop, length-drop}
@@ -47,4 +48,5 @@ pub returns : goal.returns
 returns c = let a = c.args in
     let s = a.section.now in
     let l = c.loop-at in
-    sym (some_end a.relation (network_in a.operand) (drop l.at s) (omega (arith, (prefix_sizes address_bits).fits (drop l.at s), length-drop l.at s))) ∙ l.invariant.1
+    sym (some_end a.relation (network_in a.operand) (drop l.at s)
+        (omega (arith, (prefix_sizes address_bits).fits (drop l.at s), length-drop l.at s))) ∙ l.invariant.1
