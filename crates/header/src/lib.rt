@@ -1,6 +1,6 @@
+// The header of an MRT record (RFC 6396, section 2): where its fields stand, and their bytes.
 #![tactic(auto)]
 
-// The header of an MRT record (RFC 6396, section 2): where its fields stand, and their bytes.
 pub const SECONDS_AT: usize = 0;
 
 pub const SECONDS_SIZE: usize = 4;

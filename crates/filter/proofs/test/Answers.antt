@@ -21,4 +21,6 @@ returns-in-Bogons c = let role = sym c.role_of-role.ensures ∙ ap role_said c.i
     alone_says (flag_taken c.requires.0 role refl c.next-in-Bogons.ensures) refl c.plain-in-Bogons.ensures c.put_record-in-Bogons.ensures
 
 pub returns-in_default : goal.returns-in_default
-returns-in_default c = no_test_lem c.requires.0 c.requires.1 (ap no_test (sym c.role_of-role.ensures) ∙ no_test_said c.role_of-role.result c.in_default.not-Loops c.in_default.not-Bogons c.in_default.not-Named)
+returns-in_default c =
+    no_test_lem c.requires.0 c.requires.1 (ap no_test (sym c.role_of-role.ensures) ∙ no_test_said c.role_of-role.result
+    c.in_default.not-Loops c.in_default.not-Bogons c.in_default.not-Named)

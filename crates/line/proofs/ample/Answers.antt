@@ -14,8 +14,18 @@ returns-then-attributes-gt-MESSAGE_LIMIT c =
 
 pub returns-then-announced-gt-MESSAGE_LIMIT : goal.returns-then-announced-gt-MESSAGE_LIMIT
 returns-then-announced-gt-MESSAGE_LIMIT c =
-    simp (le-ltb _ _ c.if-room-lt-LINE_ROOM.false, le-ltb _ _ c.if-withdrawn-gt-MESSAGE_LIMIT.false, le-ltb _ _ c.if-attributes-gt-MESSAGE_LIMIT.false, lt-ltb _ _ c.if-announced-gt-MESSAGE_LIMIT.true)
+    simp (
+      le-ltb _ _ c.if-room-lt-LINE_ROOM.false,
+      le-ltb _ _ c.if-withdrawn-gt-MESSAGE_LIMIT.false,
+      le-ltb _ _ c.if-attributes-gt-MESSAGE_LIMIT.false,
+      lt-ltb _ _ c.if-announced-gt-MESSAGE_LIMIT.true,
+    )
 
 pub returns : goal.returns
 returns c =
-    simp (le-ltb _ _ c.if-room-lt-LINE_ROOM.false, le-ltb _ _ c.if-withdrawn-gt-MESSAGE_LIMIT.false, le-ltb _ _ c.if-attributes-gt-MESSAGE_LIMIT.false, le-ltb _ _ c.if-announced-gt-MESSAGE_LIMIT.false)
+    simp (
+      le-ltb _ _ c.if-room-lt-LINE_ROOM.false,
+      le-ltb _ _ c.if-withdrawn-gt-MESSAGE_LIMIT.false,
+      le-ltb _ _ c.if-attributes-gt-MESSAGE_LIMIT.false,
+      le-ltb _ _ c.if-announced-gt-MESSAGE_LIMIT.false,
+    )

@@ -19,7 +19,8 @@ returns c = let a = c.args in
     let w = c.width_bytes-w.ensures in
     let part = c.part-body in
     let text = aggregator_read c.width_bytes-w.result part.result.now (number_read _ 0 w.1 c.number.ensures) c.number-2.ensures in
-    rw (field_found (asks_aggregator (width_bytes a.width)) aggregator_text a.s.now c.in-At.start c.in-At.len (sym c.find-found.ensures ∙ c.in-At.is), ← w.0, ← part.ensures, text)
+    let found = field_found (asks_aggregator (width_bytes a.width)) aggregator_text a.s.now c.in-At.start c.in-At.len in
+    rw (found (sym c.find-found.ensures ∙ c.in-At.is), ← w.0, ← part.ensures, text)
     (both (bar ∷ []) _ c.put-place.ensures
     (both _ _ c.put_decimal-place.ensures
     (both (space ∷ []) _ c.put-place-2.ensures c.put_address.ensures)))

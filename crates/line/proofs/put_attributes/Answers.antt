@@ -16,4 +16,5 @@ returns c = let a = c.args in
     (both ((bar ∷ []) ++ next_hop_field attributes) _ c.put_next_hop_field-place.ensures
     (both ((bar ∷ []) ++ origin_field attributes) _ c.put_origin_field-place.ensures
     (both ((bar ∷ []) ++ atomic_field attributes) _ c.put_atomic_field-place.ensures
-    (both ((bar ∷ []) ++ aggregator_field attributes) _ c.put_aggregator_field-place.ensures (last_written bar (communities_field attributes) c.put_communities_field.ensures)))))
+    (both ((bar ∷ []) ++ aggregator_field attributes) _ c.put_aggregator_field-place.ensures
+    (last_written bar (communities_field attributes) c.put_communities_field.ensures)))))

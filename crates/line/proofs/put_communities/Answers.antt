@@ -25,4 +25,5 @@ shape_of-out c = c.loop-p.invariant.1.long ∙ c.put_community-place.auto.out
 pub returns : goal.returns
 returns c = let s = c.args.body.now in
     let l = c.loop-p in
-    all_written space _ _ (communities_next s 0 (omega arith)) (communities_end s l.p (omega arith)) (rw c.number.ensures at c.put_community-place.ensures) l.invariant.1
+    all_written space _ _ (communities_next s 0 (omega arith)) (communities_end s l.p (omega arith))
+        (rw c.number.ensures at c.put_community-place.ensures) l.invariant.1

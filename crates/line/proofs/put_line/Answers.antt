@@ -12,13 +12,15 @@ use Rattle.line.proofs.put_line.Goals as goal
 
 pub returns-then-prefix_size-eq0 : goal.returns-then-prefix_size-eq0
 returns-then-prefix_size-eq0 c = let a = c.args in
-    rw (line_none a.sign (attributes_of (width_bytes a.parts.width) a.attributes.now) (closing_fields a.parts.address a.parts.peer a.parts.seconds a.parts.width)
+    rw (line_none a.sign (attributes_of (width_bytes a.parts.width) a.attributes.now)
+    (closing_fields a.parts.address a.parts.peer a.parts.seconds a.parts.width)
     a.prefixes.now (sym c.prefix_size.ensures ∙ c.if-prefix_size-eq0.true))
     (nothing a.out.now a.at (omega arith) (omega arith))
 
 pub returns : goal.returns
 returns c = let a = c.args in
-    rw (line_some a.sign (attributes_of (width_bytes a.parts.width) a.attributes.now) (closing_fields a.parts.address a.parts.peer a.parts.seconds a.parts.width)
+    rw (line_some a.sign (attributes_of (width_bytes a.parts.width) a.attributes.now)
+    (closing_fields a.parts.address a.parts.peer a.parts.seconds a.parts.width)
     a.prefixes.now (λ z. c.if-prefix_size-eq0.false (c.prefix_size.ensures ∙ z)))
     (both (a.sign ∷ []) _ c.put-place.ensures
     (both (bar ∷ []) _ c.put-place-2.ensures

@@ -15,7 +15,8 @@ use Rattle.operand.proofs.Places.{within_of}
 use Rattle.operand.proofs.network_operand.Goals as goal
 
 -- a network on a side is the test of that side
-on_side : (r : Relation) (side : Side) (o : Option Network) → network_meant r side o ≡ meant_of (onward (onward o (λ n. some (sided side n))) (λ n. some (network_is r n.network n.side)))
+on_side : (r : Relation) (side : Side) (o : Option Network) → network_meant r side o ≡ meant_of
+    (onward (onward o (λ n. some (sided side n))) (λ n. some (network_is r n.network n.side)))
 on_side r side none = refl
 on_side r side (some n) = refl
 
@@ -28,7 +29,8 @@ pub returns-then-first-eq-PLUS : goal.returns-then-first-eq-PLUS
 unfolding meaning network_operand
 returns-then-first-eq-PLUS c = let s = c.args.bytes.now in
     let x : get_or s 0 0 ≡ c.number-first.result = sym (c.number-first.ensures ∙ number_one s 0) in
-    rw (c.network_record.ensures announced refl, x, eq-eqb c.number-first.result 43 c.if-first-eq-PLUS.true) (on_side _ announced (network_read (drop 1 s)))
+    rw (c.network_record.ensures announced refl, x, eq-eqb c.number-first.result 43 c.if-first-eq-PLUS.true)
+        (on_side _ announced (network_read (drop 1 s)))
 
 pub network_record-requires-then-first-eq-MINUS : goal.network_record-requires-then-first-eq-MINUS
 network_record-requires-then-first-eq-MINUS c = let s = c.args.bytes.now in
@@ -39,10 +41,12 @@ pub returns-then-first-eq-MINUS : goal.returns-then-first-eq-MINUS
 unfolding meaning network_operand
 returns-then-first-eq-MINUS c = let s = c.args.bytes.now in
     let x : get_or s 0 0 ≡ c.number-first.result = sym (c.number-first.ensures ∙ number_one s 0) in
-    rw (c.network_record-then-first-eq-MINUS.ensures withdrawn refl, x, ne_eqb c.number-first.result 43 c.if-first-eq-PLUS.false, eq-eqb c.number-first.result 45 c.if-first-eq-MINUS.true) (on_side _ withdrawn (network_read (drop 1 s)))
+    rw (c.network_record-then-first-eq-MINUS.ensures withdrawn refl, x, ne_eqb c.number-first.result 43 c.if-first-eq-PLUS.false,
+        eq-eqb c.number-first.result 45 c.if-first-eq-MINUS.true) (on_side _ withdrawn (network_read (drop 1 s)))
 
 pub returns : goal.returns
 unfolding meaning network_operand
 returns c = let s = c.args.bytes.now in
     let x : get_or s 0 0 ≡ c.number-first.result = sym (c.number-first.ensures ∙ number_one s 0) in
-    rw (c.network_record-2.ensures either_side refl, x, ne_eqb c.number-first.result 43 c.if-first-eq-PLUS.false, ne_eqb c.number-first.result 45 c.if-first-eq-MINUS.false) (on_side _ either_side (network_read s))
+    rw (c.network_record-2.ensures either_side refl, x, ne_eqb c.number-first.result 43 c.if-first-eq-PLUS.false,
+        ne_eqb c.number-first.result 45 c.if-first-eq-MINUS.false) (on_side _ either_side (network_read s))

@@ -13,15 +13,21 @@ items_at-items-requires c = (blanks_within _ _ c.blanks_end.ensures c.optional_e
 
 pub returns-then-blanks_end-bytes : goal.returns-then-blanks_end-bytes
 unfolding listed_read
-returns-then-blanks_end-bytes c = broken_behind c.blanks_end-start.ensures c.optional_end-caret.ensures c.blanks_end.ensures c.items_at-items.ensures c.optional_end-dollar.ensures c.blanks_end-2.ensures
+returns-then-blanks_end-bytes c =
+    broken_behind c.blanks_end-start.ensures c.optional_end-caret.ensures c.blanks_end.ensures c.items_at-items.ensures
+    c.optional_end-dollar.ensures c.blanks_end-2.ensures
     c.if-blanks_end-bytes.true
 
 pub returns-then-variant-items-eq0 : goal.returns-then-variant-items-eq0
 unfolding listed_read
-returns-then-variant-items-eq0 c = broken_empty c.blanks_end-start.ensures c.optional_end-caret.ensures c.blanks_end.ensures c.items_at-items.ensures c.optional_end-dollar.ensures c.blanks_end-2.ensures
+returns-then-variant-items-eq0 c =
+    broken_empty c.blanks_end-start.ensures c.optional_end-caret.ensures c.blanks_end.ensures c.items_at-items.ensures
+    c.optional_end-dollar.ensures c.blanks_end-2.ensures
     c.if-variant-items-eq0.true
 
 pub returns : goal.returns
 unfolding listed_read
-returns c = pattern_here c.blanks_end-start.ensures c.optional_end-caret.ensures c.blanks_end.ensures c.items_at-items.ensures c.optional_end-dollar.ensures c.blanks_end-2.ensures
+returns c =
+    pattern_here c.blanks_end-start.ensures c.optional_end-caret.ensures c.blanks_end.ensures c.items_at-items.ensures
+    c.optional_end-dollar.ensures c.blanks_end-2.ensures
     c.if-blanks_end-bytes.false c.if-variant-items-eq0.false

@@ -41,7 +41,8 @@ others_bare (network_name r) p q v = bare (network_operand v) (λ n. network_is 
 
 pub returns-then-bytes-gt-TEXT_LIMIT : goal.returns-then-bytes-gt-TEXT_LIMIT
 unfolding operand_meaning encode_all
-returns-then-bytes-gt-TEXT_LIMIT c = rw (lt-ltb text_limit (length c.args.bytes.now) c.if-bytes-gt-TEXT_LIMIT.true) (ends (starts _ _ [] (omega arith) (omega arith)))
+returns-then-bytes-gt-TEXT_LIMIT c =
+    rw (lt-ltb text_limit (length c.args.bytes.now) c.if-bytes-gt-TEXT_LIMIT.true) (ends (starts _ _ [] (omega arith) (omega arith)))
 
 pub returns-in-Path : goal.returns-in-Path
 unfolding operand_meaning
@@ -49,9 +50,12 @@ returns-in-Path c = rw (le-ltb text_limit (length c.args.bytes.now) c.if-bytes-g
 
 pub returns-in-Communities : goal.returns-in-Communities
 unfolding operand_meaning
-returns-in-Communities c = rw (le-ltb text_limit (length c.args.bytes.now) c.if-bytes-gt-TEXT_LIMIT.false, c.in-Communities.is) c.put_communities.ensures
+returns-in-Communities c =
+    rw (le-ltb text_limit (length c.args.bytes.now) c.if-bytes-gt-TEXT_LIMIT.false, c.in-Communities.is) c.put_communities.ensures
 
 pub returns-in_default : goal.returns-in_default
 unfolding operand_meaning encode_all
 returns-in_default c = let a = c.args in
-    rw (le-ltb text_limit (length a.bytes.now) c.if-bytes-gt-TEXT_LIMIT.false, others_bare a.name c.in_default.not-Path c.in_default.not-Communities a.bytes.now) (ends (starts _ _ [] (omega arith) (omega arith)))
+    rw (le-ltb text_limit (length a.bytes.now) c.if-bytes-gt-TEXT_LIMIT.false,
+        others_bare a.name c.in_default.not-Path c.in_default.not-Communities a.bytes.now) (ends
+        (starts _ _ [] (omega arith) (omega arith)))

@@ -18,11 +18,13 @@ pub returns-in_default : goal.returns-in_default
 returns-in_default c = written_none (listed_reads _) item (item_none c.listed_at-read.ensures c.in_default.is) c.loop-item.invariant.1
 
 pub returns-then-p-end : goal.returns-then-p-end
-returns-then-p-end c = written_last (listed_reads _) item (item_here c.listed_at-read.ensures c.in-Read.is) c.loop-item.invariant.1 c.blanks_end-p.ensures
+returns-then-p-end c =
+    written_last (listed_reads _) item (item_here c.listed_at-read.ensures c.in-Read.is) c.loop-item.invariant.1 c.blanks_end-p.ensures
     (rw c.item_fields.ensures at c.put_record-place.ensures) (omega arith) c.if-p-end.true
 
 pub loop-item-smaller : goal.loop-item-smaller
-loop-item-smaller c = omega (arith, (item_here c.listed_at-read.ensures c.in-Read.is).onward, (item_here c.listed_at-read.ensures c.in-Read.is).within)
+loop-item-smaller c =
+    omega (arith, (item_here c.listed_at-read.ensures c.in-Read.is).onward, (item_here c.listed_at-read.ensures c.in-Read.is).within)
 
 pub loop-item-preserved : goal.loop-item-preserved
 loop-item-preserved c = let here = item_here c.listed_at-read.ensures c.in-Read.is in (

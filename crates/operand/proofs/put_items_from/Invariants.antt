@@ -8,7 +8,9 @@ use Rattle.operand.proofs.PartedPlaces.{parted_bytes}
 use Rattle.operand.proofs.put_items_from.Given as goal
 
 abbrev pub invariant-loop-item : goal.invariant-loop-item
-invariant-loop-item l = (l.p ≤ length l.bytes) × Midst l.initial.out l.initial.place (parted_bytes (listed_read l.list) item l.bytes l.initial.p) l.out l.place (parted_bytes (listed_read l.list) item l.bytes l.p)
+invariant-loop-item l =
+    (l.p ≤ length l.bytes) × Midst l.initial.out l.initial.place (parted_bytes (listed_read l.list) item l.bytes l.initial.p) l.out l.place
+    (parted_bytes (listed_read l.list) item l.bytes l.p)
 
 abbrev pub decreases-loop-item : goal.decreases-loop-item
 decreases-loop-item l = length l.bytes - l.p

@@ -14,7 +14,8 @@ use Rattle.operand.proofs.put_pattern_items.Goals as goal
 pub returns-in_default : goal.returns-in_default
 unfolding encode_all
 returns-in_default c = let a = c.args in
-    rw (none_follow (meaning path_name a.bytes.now) (sym c.in_default.is ∙ c.pattern-meant.ensures)) (ends (starts _ _ [] (omega arith) (omega arith)))
+    rw (none_follow (meaning path_name a.bytes.now) (sym c.in_default.is ∙ c.pattern-meant.ensures))
+        (ends (starts _ _ [] (omega arith) (omega arith)))
 
 pub optional_end-caret-requires : goal.optional_end-caret-requires
 optional_end-caret-requires c = blanks_within _ 0 c.blanks_end-start.ensures (omega arith)
@@ -23,5 +24,7 @@ pub put_items_from-requires : goal.put_items_from-requires
 put_items_from-requires c = blanks_within _ _ c.blanks_end-first.ensures c.optional_end-caret.ensures.high
 
 pub returns : goal.returns
-returns c = rw (items_follow c.blanks_end-start.ensures c.optional_end-caret.ensures c.blanks_end-first.ensures (sym c.in-Head.is ∙ c.pattern-meant.ensures))
+returns c =
+    rw (items_follow c.blanks_end-start.ensures c.optional_end-caret.ensures c.blanks_end-first.ensures
+    (sym c.in-Head.is ∙ c.pattern-meant.ensures))
     c.put_items_from.ensures
