@@ -33,9 +33,9 @@ one_refused why (some t) = counted
 refuses : {program damaged : List ℕ} {why : Refusal} → Valid program → Octets damaged → RefusedWith damaged why → (s : RunState) → (FullTally s.counting → ⊥)
     → Refuses s why (our_judge program damaged s.lines s.counting)
 unfolding number_of
-refuses v o x s n =
+refuses {why = why} v o x s n =
     rw (refused_judged v n o x (length s.lines))
-    (record { numbered = refl; nothing_spent = refl; unwritten = refl; lines_left = refl; counts = one_refused _ s.counting })
+    (record { numbered = refl; nothing_spent = refl; unwritten = refl; lines_left = refl; counts = one_refused why s.counting })
 
 -- what is asked of a run's first step, a tally that isn't full meets
 pub none_full_first : (runner : Runner) (program bytes lines : List ℕ) (counting : Option Tally) → (FullTally counting → ⊥)

@@ -54,7 +54,8 @@ module _ (judge : Judge) (program : List ℕ) where
     unfolding state_of through place_in
     state_in_lem zero h = refl
     state_in_lem (suc k) h =
-        ap (moved _) (answers k (omega arith) (state_in_lem k (omega arith))) ∙ rw (through_next rs k (omega arith) lines counting)
+        ap (moved (state_of (runner_of judge) program (front ++ rest) (start lines counting) k)) (answers k (omega arith) (state_in_lem k (omega arith)))
+        ∙ rw (through_next rs k (omega arith) lines counting)
 
     pub answer_in_lem : (k : ℕ) → k < length rs
         → answer_of (runner_of judge) program (front ++ rest) (start lines counting) k ≡ answer_in rs lines counting k

@@ -1,4 +1,6 @@
 // A run of records: one step takes the next record, judges it and counts it.
+#![tactic(auto)]
+
 ghost use Rattle.std.specs.Prelude.{◌≡◌};
 ghost use Rattle.std.proofs.Math.Option.{some};
 ghost use Rattle.judge.specs.Functions.{our_judge};
