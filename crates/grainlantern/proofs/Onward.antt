@@ -70,4 +70,4 @@ module _ {program records buffer : List ℕ} {at : ℕ} {lines : List ℕ} {t : 
 
   pub reached_next : Reached program records buffer next new after
   unfolding state_of
-  reached_next = record { step = suc s.step; state = ap (moved _) answers }
+  reached_next = record { step = suc s.step; state = ap (moved (state_of (runner_of our_judge) program records (begins buffer) s.step)) answers }

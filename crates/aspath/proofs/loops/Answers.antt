@@ -36,7 +36,7 @@ pub loop-m-preserved : goal.loop-m-preserved
 loop-m-preserved c = let there = member_view _ _ _ (sym c.next_member-there.ensures ∙ c.in-Member-there.is) in
     let r = c.loop-m in
     rw c.if-other.false (sym (returns_same _ _ _ (same_held _ c.if-m-n.false)) ∙ ap (returns_in false _) (sym there)
-        ∙ rw c.if-other.false at r.invariant)
+    ∙ rw c.if-other.false at r.invariant)
 
 pub search-smaller : goal.search-smaller
 search-smaller c = omega (arith, ap length (member_view _ _ _ (sym c.next_member-here.ensures ∙ c.in-Member.is)))

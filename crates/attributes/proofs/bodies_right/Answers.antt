@@ -18,56 +18,56 @@ returns-then-size-eq0 c = let a = c.args in
 pub bounds-s-at : goal.bounds-s-at
 bounds-s-at c =
     let x : Step c.args.s.now c.loop-at.at c.attribute_size-size.result =
-        step _ _ _ c.attribute_size-size.ensures c.if-size-eq0.false in
+    step _ _ _ c.attribute_size-size.ensures c.if-size-eq0.false in
     omega arith
 
 pub overflow_add-start : goal.overflow_add-start
 overflow_add-start c =
     let x : Step c.args.s.now c.loop-at.at c.attribute_size-size.result =
-        step _ _ _ c.attribute_size-size.ensures c.if-size-eq0.false in
+    step _ _ _ c.attribute_size-size.ensures c.if-size-eq0.false in
     omega arith
 
 pub overflow_add-end : goal.overflow_add-end
 overflow_add-end c =
     let x : Step c.args.s.now c.loop-at.at c.attribute_size-size.result =
-        step _ _ _ c.attribute_size-size.ensures c.if-size-eq0.false in
+    step _ _ _ c.attribute_size-size.ensures c.if-size-eq0.false in
     omega arith
 
 pub slice_bounds-body_right-count : goal.slice_bounds-body_right-count
 slice_bounds-body_right-count c =
     let x : Step c.args.s.now c.loop-at.at c.attribute_size-size.result =
-        step _ _ _ c.attribute_size-size.ensures c.if-size-eq0.false in
+    step _ _ _ c.attribute_size-size.ensures c.if-size-eq0.false in
     omega arith
 
 pub slice_bounds-body_right-start : goal.slice_bounds-body_right-start
 slice_bounds-body_right-start c =
     let x : Step c.args.s.now c.loop-at.at c.attribute_size-size.result =
-        step _ _ _ c.attribute_size-size.ensures c.if-size-eq0.false in
+    step _ _ _ c.attribute_size-size.ensures c.if-size-eq0.false in
     omega arith
 
 pub slice_bounds-body_right-end : goal.slice_bounds-body_right-end
 slice_bounds-body_right-end c =
     let x : Step c.args.s.now c.loop-at.at c.attribute_size-size.result =
-        step _ _ _ c.attribute_size-size.ensures c.if-size-eq0.false in
+    step _ _ _ c.attribute_size-size.ensures c.if-size-eq0.false in
     omega arith
 
 pub returns-then-not-body_right : goal.returns-then-not-body_right
 returns-then-not-body_right c =
     let x : Step c.args.s.now c.loop-at.at c.attribute_size-size.result =
-        step _ _ _ c.attribute_size-size.ensures c.if-size-eq0.false in
+    step _ _ _ c.attribute_size-size.ensures c.if-size-eq0.false in
     let p = body_part x _ c.header_size.ensures.0 in
     sym (right_wrong _ x.some x.code _ p (sym c.body_right.ensures ∙ c.if-not-body_right.true)) ∙ c.loop-at.invariant.1
 
 pub loop-at-smaller : goal.loop-at-smaller
 loop-at-smaller c =
     let x : Step c.args.s.now c.loop-at.at c.attribute_size-size.result =
-        step _ _ _ c.attribute_size-size.ensures c.if-size-eq0.false in
+    step _ _ _ c.attribute_size-size.ensures c.if-size-eq0.false in
     omega arith
 
 pub loop-at-preserved : goal.loop-at-preserved
 loop-at-preserved c =
     let x : Step c.args.s.now c.loop-at.at c.attribute_size-size.result =
-        step _ _ _ c.attribute_size-size.ensures c.if-size-eq0.false in
+    step _ _ _ c.attribute_size-size.ensures c.if-size-eq0.false in
     let p = body_part x _ c.header_size.ensures.0 in
     (x.fits, rw (← x.next) (sym (right_next _ x.some x.code _ p (sym c.body_right.ensures ∙ c.if-not-body_right.false)) ∙ c.loop-at.invariant.1))
 

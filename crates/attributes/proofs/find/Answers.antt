@@ -19,13 +19,13 @@ returns-then-size-eq0 c = let a = c.args in
 pub bounds-s-at : goal.bounds-s-at
 bounds-s-at c =
     let x : Step c.args.s.now c.loop-at.at c.attribute_size-size.result =
-        step _ _ _ c.attribute_size-size.ensures c.if-size-eq0.false in
+    step _ _ _ c.attribute_size-size.ensures c.if-size-eq0.false in
     omega arith
 
 pub returns-then-s-at : goal.returns-then-s-at
 returns-then-s-at c =
     let x : Step c.args.s.now c.loop-at.at c.attribute_size-size.result =
-        step _ _ _ c.attribute_size-size.ensures c.if-size-eq0.false in
+    step _ _ _ c.attribute_size-size.ensures c.if-size-eq0.false in
     let l = c.loop-at in
     let here = find_here _ l.at _ x.some (x.code ∙ c.if-s-at.true) in
     ap₂ (λ (h b : ℕ). At (l.at + h) b) c.header_size.ensures.0 c.body_size-len.ensures.0 ∙ sym here ∙ l.invariant.1
@@ -33,19 +33,19 @@ returns-then-s-at c =
 pub overflow_add-at-in-loop-at : goal.overflow_add-at-in-loop-at
 overflow_add-at-in-loop-at c =
     let x : Step c.args.s.now c.loop-at.at c.attribute_size-size.result =
-        step _ _ _ c.attribute_size-size.ensures c.if-size-eq0.false in
+    step _ _ _ c.attribute_size-size.ensures c.if-size-eq0.false in
     omega arith
 
 pub loop-at-smaller : goal.loop-at-smaller
 loop-at-smaller c =
     let x : Step c.args.s.now c.loop-at.at c.attribute_size-size.result =
-        step _ _ _ c.attribute_size-size.ensures c.if-size-eq0.false in
+    step _ _ _ c.attribute_size-size.ensures c.if-size-eq0.false in
     omega arith
 
 pub loop-at-preserved : goal.loop-at-preserved
 loop-at-preserved c =
     let x : Step c.args.s.now c.loop-at.at c.attribute_size-size.result =
-        step _ _ _ c.attribute_size-size.ensures c.if-size-eq0.false in
+    step _ _ _ c.attribute_size-size.ensures c.if-size-eq0.false in
     let l = c.loop-at in
     let h = find_next c.args.code l.at _ x.some (λ e. c.if-s-at.false (sym x.code ∙ e)) in
     (x.fits, rw (← x.next, c.attribute_size-size.ensures) (sym h ∙ l.invariant.1))

@@ -11,5 +11,5 @@ pub returns : goal.returns
 returns c = let a = c.args in
     let s = a.s.now in
     let e : c.length_width.result ≡ length_width (get_or s a.at 0) =
-        c.length_width.ensures.0 ∙ ap length_width (c.number.ensures ∙ number_one s a.at) in
+    c.length_width.ensures.0 ∙ ap length_width (c.number.ensures ∙ number_one s a.at) in
     (rw (header_at s a.at) (omega arith), omega arith)

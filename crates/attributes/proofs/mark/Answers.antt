@@ -10,8 +10,10 @@ shifted : (bit : ℕ) → bit < 64 → 1 * 2 ^ bit % 18446744073709551616 ≡ 2 
 shifted bit h = rw one-mul (mod-eq_of_lt (pow-lt {i = bit} {j = 64} h))
 
 pub overflow_add-result : goal.overflow_add-result
-overflow_add-result c = rw (shifted c.args.bit c.requires.0) (record { fits =
-    mark_lt 64 c.args.word c.args.bit c.ranges.word.fits c.requires.0 c.requires.1 })
+overflow_add-result c = rw (shifted c.args.bit c.requires.0) (record {
+  fits =
+      mark_lt 64 c.args.word c.args.bit c.ranges.word.fits c.requires.0 c.requires.1;
+})
 
 pub returns : goal.returns
 returns c = rw (shifted c.args.bit c.requires.0) refl

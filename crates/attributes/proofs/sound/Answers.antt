@@ -31,7 +31,7 @@ bounds-seen-word c = let i = c.loop-at.at + 1 in
 pub returns-then-marked : goal.returns-then-marked
 returns-then-marked c =
     let x : Step c.args.s.now c.loop-at.at c.attribute_size-size.result =
-        step _ _ _ c.attribute_size-size.ensures c.if-size-eq0.false in
+    step _ _ _ c.attribute_size-size.ensures c.if-size-eq0.false in
     let l = c.loop-at in
     sym (sound_marked _ x.some (code_read x c.number-code.ensures) (marks l.seen) (sym c.marked.ensures ∙ c.if-marked.true)) ∙ l.invariant.2
 
@@ -47,19 +47,19 @@ bounds-seen-word-in-loop-at c = let i = c.loop-at.at + 1 in
 pub overflow_add-at-in-loop-at : goal.overflow_add-at-in-loop-at
 overflow_add-at-in-loop-at c =
     let x : Step c.args.s.now c.loop-at.at c.attribute_size-size.result =
-        step _ _ _ c.attribute_size-size.ensures c.if-size-eq0.false in
+    step _ _ _ c.attribute_size-size.ensures c.if-size-eq0.false in
     omega arith
 
 pub loop-at-smaller : goal.loop-at-smaller
 loop-at-smaller c =
     let x : Step c.args.s.now c.loop-at.at c.attribute_size-size.result =
-        step _ _ _ c.attribute_size-size.ensures c.if-size-eq0.false in
+    step _ _ _ c.attribute_size-size.ensures c.if-size-eq0.false in
     omega arith
 
 pub loop-at-preserved : goal.loop-at-preserved
 loop-at-preserved c =
     let x : Step c.args.s.now c.loop-at.at c.attribute_size-size.result =
-        step _ _ _ c.attribute_size-size.ensures c.if-size-eq0.false in
+    step _ _ _ c.attribute_size-size.ensures c.if-size-eq0.false in
     let l = c.loop-at in
     let n = c.number-code.result in
     let i = l.at + 1 in

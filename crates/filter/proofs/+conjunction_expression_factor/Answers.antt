@@ -84,7 +84,7 @@ conjunction-loop-out-smaller t c =
 pub conjunction-loop-out-preserved : goal.conjunction-loop-out-preserved
 conjunction-loop-out-preserved t c = λ v old g.
     sofar_more and·op (c.loop-out.invariant v old g) (sym c.role_of-role.ensures ∙ ap role_said c.in-And.is) c.next.ensures
-        c.factor-q.ensures c.in-Upto-q.is c.plain.ensures c.put_record.ensures
+    c.factor-q.ensures c.in-Upto-q.is c.plain.ensures c.put_record.ensures
 
 pub expression-conjunction-r-requires : goal.expression-conjunction-r-requires
 expression-conjunction-r-requires t c = (omega arith, c.requires)
@@ -158,7 +158,7 @@ expression-loop-out-smaller t c =
 pub expression-loop-out-preserved : goal.expression-loop-out-preserved
 expression-loop-out-preserved t c = λ v old g.
     sofar_more or·op (c.loop-out.invariant v old g) (sym c.role_of-role.ensures ∙ ap role_said c.in-Or.is) c.next.ensures
-        c.conjunction-q.ensures c.in-Upto-q.is c.plain.ensures c.put_record.ensures
+    c.conjunction-q.ensures c.in-Upto-q.is c.plain.ensures c.put_record.ensures
 
 pub factor-returns-then-level-ge-LEVEL_LIMIT : goal.factor-returns-then-level-ge-LEVEL_LIMIT
 factor-returns-then-level-ge-LEVEL_LIMIT t c =
@@ -169,9 +169,10 @@ pub factor-overflow_add-level : goal.factor-overflow_add-level
 factor-overflow_add-level t c = omega (arith, c.requires.0)
 
 pub factor-factor-r-requires : goal.factor-factor-r-requires
-factor-factor-r-requires t c = let token = (sort_token _ c.args.t c.in-Bang.is) in
-    (omega (arith, c.requires, next_fewer c.requires.1 token c.next.ensures),
-        (omega (arith, c.if-level-ge-LEVEL_LIMIT.false), next_ready c.requires.1 token c.next.ensures))
+factor-factor-r-requires t c = let token = (sort_token _ c.args.t c.in-Bang.is) in (
+  omega (arith, c.requires, next_fewer c.requires.1 token c.next.ensures),
+  (omega (arith, c.if-level-ge-LEVEL_LIMIT.false), next_ready c.requires.1 token c.next.ensures),
+)
 
 pub factor-shape_of-out-in_default-r : goal.factor-shape_of-out-in_default-r
 factor-shape_of-out-in_default-r t c = c.factor-r.auto.out
@@ -202,9 +203,10 @@ pub factor-overflow_add-level-in-Open : goal.factor-overflow_add-level-in-Open
 factor-overflow_add-level-in-Open t c = omega (arith, c.requires.0)
 
 pub factor-expression-r-requires : goal.factor-expression-r-requires
-factor-expression-r-requires t c = let token = (sort_token _ c.args.t c.in-Open.is) in
-    (omega (arith, c.requires, next_fewer c.requires.1 token c.next-in-Open.ensures),
-        (omega (arith, c.if-level-ge-LEVEL_LIMIT-2.false), next_ready c.requires.1 token c.next-in-Open.ensures))
+factor-expression-r-requires t c = let token = (sort_token _ c.args.t c.in-Open.is) in (
+  omega (arith, c.requires, next_fewer c.requires.1 token c.next-in-Open.ensures),
+  (omega (arith, c.if-level-ge-LEVEL_LIMIT-2.false), next_ready c.requires.1 token c.next-in-Open.ensures),
+)
 
 pub factor-shape_of-out-in_default-r-2 : goal.factor-shape_of-out-in_default-r-2
 factor-shape_of-out-in_default-r-2 t c = c.expression-r.auto.out
@@ -221,7 +223,7 @@ pub factor-returns-in_default-close : goal.factor-returns-in_default-close
 factor-returns-in_default-close t c =
     let token = sort_token _ c.args.t c.in-Open.is in
     group_stops c.requires.1 token c.if-level-ge-LEVEL_LIMIT-2.false c.next-in-Open.ensures c.expression-r.ensures c.in-Upto-r.is
-        c.in_default-close.not-Close
+    c.in_default-close.not-Close
 
 pub factor-test-requires : goal.factor-test-requires
 factor-test-requires t c = (c.requires.1, no_level c.args.t.sort c.in_default.not-Bang c.in_default.not-Open)
@@ -241,7 +243,7 @@ pub factor-returns-in-Close : goal.factor-returns-in-Close
 factor-returns-in-Close t c =
     let token = sort_token _ c.args.t c.in-Open.is in
     group c.requires.1 token c.if-level-ge-LEVEL_LIMIT-2.false c.next-in-Open.ensures c.expression-r.ensures c.in-Upto-r.is c.in-Close.is
-        c.next-in-Open-2.ensures
+    c.next-in-Open-2.ensures
 
 pub factor-shape_of-out-in_default : goal.factor-shape_of-out-in_default
 factor-shape_of-out-in_default t c = c.test.auto.out

@@ -21,7 +21,7 @@ decreases-factor l = 3 * length (from l.text.now l.t)
 abbrev pub invariant-conjunction-loop-out : goal.invariant-conjunction-loop-out
 invariant-conjunction-loop-out l =
     (v : Lexeme) (old : List ℕ) → Sofar and·op l.text l.level v l.n old l.initial.u l.initial.m l.initial.out → Sofar and·op l.text l.level
-        v l.n old l.u l.m l.out
+    v l.n old l.u l.m l.out
 
 abbrev pub decreases-conjunction-loop-out : goal.decreases-conjunction-loop-out
 decreases-conjunction-loop-out l = length (from l.text l.u)
@@ -30,7 +30,7 @@ decreases-conjunction-loop-out l = length (from l.text l.u)
 abbrev pub invariant-expression-loop-out : goal.invariant-expression-loop-out
 invariant-expression-loop-out l =
     (v : Lexeme) (old : List ℕ) → Sofar or·op l.text l.level v l.n old l.initial.u l.initial.m l.initial.out → Sofar or·op l.text l.level v
-        l.n old l.u l.m l.out
+    l.n old l.u l.m l.out
 
 abbrev pub decreases-expression-loop-out : goal.decreases-expression-loop-out
 decreases-expression-loop-out l = length (from l.text l.u)

@@ -14,33 +14,37 @@ returns-then-quote-text c =
     c.if-quote-text.true
 
 pub parse-measured-requires : goal.parse-measured-requires
-parse-measured-requires c =
-    (c.if-text-gt-TEXT_LIMIT.false, given_closed _ c.args.program.now c.if-text-gt-TEXT_LIMIT.false c.forbidden-byte.ensures
-    c.if-byte-text.false c.unclosed-quote.ensures c.if-quote-text.false)
+parse-measured-requires c = (
+  c.if-text-gt-TEXT_LIMIT.false,
+  given_closed _ c.args.program.now c.if-text-gt-TEXT_LIMIT.false c.forbidden-byte.ensures
+      c.if-byte-text.false c.unclosed-quote.ensures c.if-quote-text.false,
+)
 
 pub returns-then-n-gt-WEIGHT_LIMIT : goal.returns-then-n-gt-WEIGHT_LIMIT
 returns-then-n-gt-WEIGHT_LIMIT c = let back = put_back c.parse-measured.new.out c.args.program.now c.parse-measured.auto.out in
     rw back (given_heavy _ c.args.program.now c.if-text-gt-TEXT_LIMIT.false c.forbidden-byte.ensures c.if-byte-text.false
-        c.unclosed-quote.ensures c.if-quote-text.false (c.parse-measured.ensures.upto _ _ c.in-Upto.is) c.if-n-gt-WEIGHT_LIMIT.true)
+    c.unclosed-quote.ensures c.if-quote-text.false (c.parse-measured.ensures.upto _ _ c.in-Upto.is) c.if-n-gt-WEIGHT_LIMIT.true)
 
 pub returns-then-program-n : goal.returns-then-program-n
 returns-then-program-n c = let back = put_back c.parse-measured.new.out c.args.program.now c.parse-measured.auto.out in
     rw back (given_room _ c.args.program.now c.if-text-gt-TEXT_LIMIT.false c.forbidden-byte.ensures c.if-byte-text.false
-        c.unclosed-quote.ensures c.if-quote-text.false (c.parse-measured.ensures.upto _ _ c.in-Upto.is) c.if-n-gt-WEIGHT_LIMIT.false
-        (rw back at c.if-program-n.true))
+    c.unclosed-quote.ensures c.if-quote-text.false (c.parse-measured.ensures.upto _ _ c.in-Upto.is) c.if-n-gt-WEIGHT_LIMIT.false
+    (rw back at c.if-program-n.true))
 
 pub parse-requires : goal.parse-requires
-parse-requires c =
-    (c.if-text-gt-TEXT_LIMIT.false, given_closed _ c.args.program.now c.if-text-gt-TEXT_LIMIT.false c.forbidden-byte.ensures
-    c.if-byte-text.false c.unclosed-quote.ensures c.if-quote-text.false)
+parse-requires c = (
+  c.if-text-gt-TEXT_LIMIT.false,
+  given_closed _ c.args.program.now c.if-text-gt-TEXT_LIMIT.false c.forbidden-byte.ensures
+      c.if-byte-text.false c.unclosed-quote.ensures c.if-quote-text.false,
+)
 
 pub returns-in-Refused : goal.returns-in-Refused
 returns-in-Refused c = let back = put_back c.parse-measured.new.out c.args.program.now c.parse-measured.auto.out in
     rw back (given_stopped _ c.args.program.now c.if-text-gt-TEXT_LIMIT.false c.forbidden-byte.ensures c.if-byte-text.false
-        c.unclosed-quote.ensures c.if-quote-text.false (c.parse-measured.ensures.refused _ _ c.in-Refused.is))
+    c.unclosed-quote.ensures c.if-quote-text.false (c.parse-measured.ensures.refused _ _ c.in-Refused.is))
 
 pub returns-else-program-n : goal.returns-else-program-n
 returns-else-program-n c = let back = put_back c.parse-measured.new.out c.args.program.now c.parse-measured.auto.out in
     given_program _ c.args.program.now c.if-text-gt-TEXT_LIMIT.false c.forbidden-byte.ensures c.if-byte-text.false c.unclosed-quote.ensures
-        c.if-quote-text.false (c.parse-measured.ensures.upto _ _ c.in-Upto.is) c.if-n-gt-WEIGHT_LIMIT.false
-        (rw back at c.if-program-n.false) (rw back at c.parse.ensures)
+    c.if-quote-text.false (c.parse-measured.ensures.upto _ _ c.in-Upto.is) c.if-n-gt-WEIGHT_LIMIT.false
+    (rw back at c.if-program-n.false) (rw back at c.parse.ensures)

@@ -26,4 +26,4 @@ pub returns : goal.returns
 returns c = let s = c.args.body.now in
     let l = c.loop-p in
     all_written space _ _ (communities_next s 0 (omega arith)) (communities_end s l.p (omega arith))
-        (rw c.number.ensures at c.put_community-place.ensures) l.invariant.1
+    (rw c.number.ensures at c.put_community-place.ensures) l.invariant.1

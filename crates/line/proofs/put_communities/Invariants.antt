@@ -9,8 +9,8 @@ use Rattle.line.proofs.put_communities.Given as goal
 abbrev pub invariant-loop-p : goal.invariant-loop-p
 invariant-loop-p l = (l.p ≤ length l.body)
     × Midst
-      l.initial.out l.initial.place (following space (community_texts l.body l.initial.p))
-      l.out l.place (following space (community_texts l.body l.p))
+    l.initial.out l.initial.place (following space (community_texts l.body l.initial.p))
+    l.out l.place (following space (community_texts l.body l.p))
 
 abbrev pub decreases-loop-p : goal.decreases-loop-p
 decreases-loop-p l = length l.body - l.p

@@ -11,8 +11,8 @@ use Rattle.line.proofs.put_numbers.Given as goal
 abbrev pub invariant-loop-left : goal.invariant-loop-left
 invariant-loop-left l = (l.p + l.left * l.w ≤ length l.s)
     × Midst
-      l.initial.out l.initial.place (following l.separator (map decimal (numbers_in l.w l.initial.left (drop l.initial.p l.s))))
-      l.out l.place (following l.separator (map decimal (numbers_in l.w l.left (drop l.p l.s))))
+    l.initial.out l.initial.place (following l.separator (map decimal (numbers_in l.w l.initial.left (drop l.initial.p l.s))))
+    l.out l.place (following l.separator (map decimal (numbers_in l.w l.left (drop l.p l.s))))
 
 abbrev pub decreases-loop-left : goal.decreases-loop-left
 decreases-loop-left l = l.left

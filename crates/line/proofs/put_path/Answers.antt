@@ -13,8 +13,8 @@ pub returns-then-first-eq0 : goal.returns-then-first-eq0
 returns-then-first-eq0 c = let a = c.args in
     let w = width_bytes a.width in
     none_written space
-        (texts_end (segment_size w) (segment_of w) segment_text a.s.now (sym c.segment_size-first.ensures ∙ c.if-first-eq0.true))
-        (omega arith) (omega arith)
+    (texts_end (segment_size w) (segment_of w) segment_text a.s.now (sym c.segment_size-first.ensures ∙ c.if-first-eq0.true))
+    (omega arith) (omega arith)
 
 pub put_segment-place-requires : goal.put_segment-place-requires
 put_segment-place-requires c = λ z. c.if-first-eq0.false (c.segment_size-first.ensures ∙ z)
@@ -42,7 +42,7 @@ loop-width-preserved c = let w = width_bytes c.args.width in
       item_fits (segment_sizes w) s c.loop-width.invariant.0 e,
       rw (e, ← drop-drop (segment_size w (drop p s)) p s)
           (next_written space _ _
-              (texts_next (segment_size w) (segment_of w) segment_text (segment_sizes w) (drop p s) (λ z. c.if-size-eq0.false (e ∙ z)))
+          (texts_next (segment_size w) (segment_of w) segment_text (segment_sizes w) (drop p s) (λ z. c.if-size-eq0.false (e ∙ z)))
           c.loop-width.invariant.1 c.put-next.ensures c.put_segment-place-in-loop-width.ensures),
     )
 

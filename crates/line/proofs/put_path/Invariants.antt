@@ -10,8 +10,8 @@ use Rattle.line.proofs.put_path.Given as goal
 abbrev pub invariant-loop-width : goal.invariant-loop-width
 invariant-loop-width l = (l.p ≤ length l.s)
     × Midst
-      l.initial.out l.initial.place (following space (map segment_text (segments_of (width_bytes l.width) (drop l.initial.p l.s))))
-      l.out l.place (following space (map segment_text (segments_of (width_bytes l.width) (drop l.p l.s))))
+    l.initial.out l.initial.place (following space (map segment_text (segments_of (width_bytes l.width) (drop l.initial.p l.s))))
+    l.out l.place (following space (map segment_text (segments_of (width_bytes l.width) (drop l.p l.s))))
 
 abbrev pub decreases-loop-width : goal.decreases-loop-width
 decreases-loop-width l = length l.s - l.p

@@ -14,8 +14,8 @@ use Rattle.line.proofs.put_prefixes.Goals as goal
 pub returns-then-first-eq0 : goal.returns-then-first-eq0
 returns-then-first-eq0 c = let s = c.args.s.now in
     none_written space
-        (texts_end (prefix_size address_bits) (network_of address_bits) network_text s (sym c.prefix_size-first.ensures ∙ c.if-first-eq0.true))
-        (omega arith) (omega arith)
+    (texts_end (prefix_size address_bits) (network_of address_bits) network_text s (sym c.prefix_size-first.ensures ∙ c.if-first-eq0.true))
+    (omega arith) (omega arith)
 
 pub loop-size-init : goal.loop-size-init
 loop-size-init c = (omega (arith, c.prefix_size-first.ensures, (prefix_sizes address_bits).fits c.args.s.now), begins c.put_network-place.ensures)
@@ -33,8 +33,8 @@ loop-size-preserved c = let s = c.args.s.now in
       item_fits (prefix_sizes address_bits) s c.loop-size.invariant.0 e,
       rw (e, ← drop-drop (prefix_size address_bits (drop p s)) p s)
           (next_written space _ _
-              (texts_next (prefix_size address_bits) (network_of address_bits) network_text (prefix_sizes address_bits) (drop p s)
-              (λ z. c.if-size-eq0.false (e ∙ z)))
+          (texts_next (prefix_size address_bits) (network_of address_bits) network_text (prefix_sizes address_bits) (drop p s)
+          (λ z. c.if-size-eq0.false (e ∙ z)))
           c.loop-size.invariant.1 c.put-place.ensures (rw c.network_at-in-loop-size.ensures at c.put_network-place-in-loop-size.ensures)),
     )
 

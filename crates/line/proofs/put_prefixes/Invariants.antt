@@ -11,8 +11,8 @@ use Rattle.line.proofs.put_prefixes.Given as goal
 abbrev pub invariant-loop-size : goal.invariant-loop-size
 invariant-loop-size l = (l.p ≤ length l.s)
     × Midst
-      l.initial.out l.initial.place (following space (map network_text (networks_of (drop l.initial.p l.s))))
-      l.out l.place (following space (map network_text (networks_of (drop l.p l.s))))
+    l.initial.out l.initial.place (following space (map network_text (networks_of (drop l.initial.p l.s))))
+    l.out l.place (following space (map network_text (networks_of (drop l.p l.s))))
 
 abbrev pub decreases-loop-size : goal.decreases-loop-size
 decreases-loop-size l = length l.s - l.p

@@ -16,7 +16,7 @@ pub returns-then-size-eq0 : goal.returns-then-size-eq0
 returns-then-size-eq0 c = let s = c.args.s.now in
     let l = c.loop-at in
     sym (whole_bad (prefix_size address_bits) (drop l.at s) (simp length-drop (omega arith)) (sym c.prefix_size-size.ensures ∙ c.if-size-eq0.true))
-        ∙ l.invariant.1
+    ∙ l.invariant.1
 
 pub overflow_add-at : goal.overflow_add-at
 overflow_add-at c = let s = c.args.s.now in

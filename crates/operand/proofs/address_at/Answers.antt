@@ -29,8 +29,11 @@ unfolding address_read
 returns-in_default-part-2 c = let a = c.args in
     let s = a.s.now in
     address_missing s a.at
-    (rw (said_some s c.part.ensures.said c.in-Read.is, said_some s c.part-2.ensures.said c.in-Read-part.is,
-        said_none s c.part-3.ensures.said c.in_default-part-2.is))
+    (rw (
+      said_some s c.part.ensures.said c.in-Read.is,
+      said_some s c.part-2.ensures.said c.in-Read-part.is,
+      said_none s c.part-3.ensures.said c.in_default-part-2.is,
+    ))
 
 pub number_at-requires : goal.number_at-requires
 number_at-requires c = ((c.part-3.ensures.ends _ _ c.in-Read-part-2.is).0, omega arith)
@@ -49,33 +52,63 @@ returns-in_default-number_at c = let a = c.args in
 
 pub overflow_mul-result : goal.overflow_mul-result
 overflow_mul-result c =
-    omega (arith, (c.part.ensures.ends _ _ c.in-Read.is).1, (c.part-2.ensures.ends _ _ c.in-Read-part.is).1,
-    (c.part-3.ensures.ends _ _ c.in-Read-part-2.is).1, (c.number_at.ensures.ends _ _ c.in-Read-number_at.is).1)
+    omega (
+      arith,
+      (c.part.ensures.ends _ _ c.in-Read.is).1,
+      (c.part-2.ensures.ends _ _ c.in-Read-part.is).1,
+      (c.part-3.ensures.ends _ _ c.in-Read-part-2.is).1,
+      (c.number_at.ensures.ends _ _ c.in-Read-number_at.is).1,
+    )
 
 pub overflow_add-result : goal.overflow_add-result
 overflow_add-result c =
-    omega (arith, (c.part.ensures.ends _ _ c.in-Read.is).1, (c.part-2.ensures.ends _ _ c.in-Read-part.is).1,
-    (c.part-3.ensures.ends _ _ c.in-Read-part-2.is).1, (c.number_at.ensures.ends _ _ c.in-Read-number_at.is).1)
+    omega (
+      arith,
+      (c.part.ensures.ends _ _ c.in-Read.is).1,
+      (c.part-2.ensures.ends _ _ c.in-Read-part.is).1,
+      (c.part-3.ensures.ends _ _ c.in-Read-part-2.is).1,
+      (c.number_at.ensures.ends _ _ c.in-Read-number_at.is).1,
+    )
 
 pub overflow_mul-result-2 : goal.overflow_mul-result-2
 overflow_mul-result-2 c =
-    omega (arith, (c.part.ensures.ends _ _ c.in-Read.is).1, (c.part-2.ensures.ends _ _ c.in-Read-part.is).1,
-    (c.part-3.ensures.ends _ _ c.in-Read-part-2.is).1, (c.number_at.ensures.ends _ _ c.in-Read-number_at.is).1)
+    omega (
+      arith,
+      (c.part.ensures.ends _ _ c.in-Read.is).1,
+      (c.part-2.ensures.ends _ _ c.in-Read-part.is).1,
+      (c.part-3.ensures.ends _ _ c.in-Read-part-2.is).1,
+      (c.number_at.ensures.ends _ _ c.in-Read-number_at.is).1,
+    )
 
 pub overflow_add-result-2 : goal.overflow_add-result-2
 overflow_add-result-2 c =
-    omega (arith, (c.part.ensures.ends _ _ c.in-Read.is).1, (c.part-2.ensures.ends _ _ c.in-Read-part.is).1,
-    (c.part-3.ensures.ends _ _ c.in-Read-part-2.is).1, (c.number_at.ensures.ends _ _ c.in-Read-number_at.is).1)
+    omega (
+      arith,
+      (c.part.ensures.ends _ _ c.in-Read.is).1,
+      (c.part-2.ensures.ends _ _ c.in-Read-part.is).1,
+      (c.part-3.ensures.ends _ _ c.in-Read-part-2.is).1,
+      (c.number_at.ensures.ends _ _ c.in-Read-number_at.is).1,
+    )
 
 pub overflow_mul-result-3 : goal.overflow_mul-result-3
 overflow_mul-result-3 c =
-    omega (arith, (c.part.ensures.ends _ _ c.in-Read.is).1, (c.part-2.ensures.ends _ _ c.in-Read-part.is).1,
-    (c.part-3.ensures.ends _ _ c.in-Read-part-2.is).1, (c.number_at.ensures.ends _ _ c.in-Read-number_at.is).1)
+    omega (
+      arith,
+      (c.part.ensures.ends _ _ c.in-Read.is).1,
+      (c.part-2.ensures.ends _ _ c.in-Read-part.is).1,
+      (c.part-3.ensures.ends _ _ c.in-Read-part-2.is).1,
+      (c.number_at.ensures.ends _ _ c.in-Read-number_at.is).1,
+    )
 
 pub overflow_add-result-3 : goal.overflow_add-result-3
 overflow_add-result-3 c =
-    omega (arith, (c.part.ensures.ends _ _ c.in-Read.is).1, (c.part-2.ensures.ends _ _ c.in-Read-part.is).1,
-    (c.part-3.ensures.ends _ _ c.in-Read-part-2.is).1, (c.number_at.ensures.ends _ _ c.in-Read-number_at.is).1)
+    omega (
+      arith,
+      (c.part.ensures.ends _ _ c.in-Read.is).1,
+      (c.part-2.ensures.ends _ _ c.in-Read-part.is).1,
+      (c.part-3.ensures.ends _ _ c.in-Read-part-2.is).1,
+      (c.number_at.ensures.ends _ _ c.in-Read-number_at.is).1,
+    )
 
 pub returns : goal.returns
 unfolding address_read

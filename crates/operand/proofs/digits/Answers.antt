@@ -52,9 +52,12 @@ pub loop-i-preserved : goal.loop-i-preserved
 loop-i-preserved c = let a = c.args in
     let l = c.loop-i in
     let y : is_digit _ ≡ true = sym c.is_digit.ensures ∙ c.if-not-is_digit.false in
-    let e : l.i + 1 - a.at ≡ l.i - a.at + 1 = omega arith in
-    (omega arith, omega arith, rw e (more_digits (l.i - a.at) l.n _ (digit_of _ y).1 l.invariant.2),
-        sym (digits_onward a.s.now l.n l.i (omega arith) y) ∙ l.invariant.3)
+    let e : l.i + 1 - a.at ≡ l.i - a.at + 1 = omega arith in (
+      omega arith,
+      omega arith,
+      rw e (more_digits (l.i - a.at) l.n _ (digit_of _ y).1 l.invariant.2),
+      sym (digits_onward a.s.now l.n l.i (omega arith) y) ∙ l.invariant.3,
+    )
 
 pub returns : goal.returns
 unfolding any_digits

@@ -29,8 +29,12 @@ pub returns-then-count-gt-FRACTION_DIGITS : goal.returns-then-count-gt-FRACTION_
 returns-then-count-gt-FRACTION_DIGITS c = let a = c.args in
     let s = a.s.now in
     let n = length s - (a.at + 1) in
-    rw (fraction_at s a.at c.if-s-at.false, eq-eqb (get_or s a.at 0) 46 c.if-s-at-ne46.false, le-leb 1 n c.if-count-lt1.false,
-        lt-leb n fraction_digits c.if-count-gt-FRACTION_DIGITS.true)
+    rw (
+      fraction_at s a.at c.if-s-at.false,
+      eq-eqb (get_or s a.at 0) 46 c.if-s-at-ne46.false,
+      le-leb 1 n c.if-count-lt1.false,
+      lt-leb n fraction_digits c.if-count-gt-FRACTION_DIGITS.true,
+    )
 
 pub returns-in_default : goal.returns-in_default
 returns-in_default c = let a = c.args in

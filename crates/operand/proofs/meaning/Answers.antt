@@ -35,13 +35,17 @@ pub returns-in-MessageType : goal.returns-in-MessageType
 unfolding operand_meaning meaning coded head_fields head_of items_of
 returns-in-MessageType c = let s = c.args.bytes.now in
     rw (le-ltb text_limit (length s) c.if-bytes-gt-TEXT_LIMIT.false, c.in-MessageType.is, c.code_record.ensures, c.type_named.ensures)
-        (type_record (coded type_names s))
+    (type_record (coded type_names s))
 
 pub returns-in-Attribute : goal.returns-in-Attribute
 unfolding operand_meaning meaning coded head_fields head_of items_of
 returns-in-Attribute c = let s = c.args.bytes.now in
-    rw (le-ltb text_limit (length s) c.if-bytes-gt-TEXT_LIMIT.false, c.in-Attribute.is, c.code_record-in-Attribute.ensures,
-        c.attribute_named.ensures) (attribute_record (coded attribute_names s))
+    rw (
+      le-ltb text_limit (length s) c.if-bytes-gt-TEXT_LIMIT.false,
+      c.in-Attribute.is,
+      c.code_record-in-Attribute.ensures,
+      c.attribute_named.ensures,
+    ) (attribute_record (coded attribute_names s))
 
 pub returns-in-Path : goal.returns-in-Path
 unfolding operand_meaning

@@ -30,7 +30,7 @@ unfolding meaning network_operand
 returns-then-first-eq-PLUS c = let s = c.args.bytes.now in
     let x : get_or s 0 0 ≡ c.number-first.result = sym (c.number-first.ensures ∙ number_one s 0) in
     rw (c.network_record.ensures announced refl, x, eq-eqb c.number-first.result 43 c.if-first-eq-PLUS.true)
-        (on_side _ announced (network_read (drop 1 s)))
+    (on_side _ announced (network_read (drop 1 s)))
 
 pub network_record-requires-then-first-eq-MINUS : goal.network_record-requires-then-first-eq-MINUS
 network_record-requires-then-first-eq-MINUS c = let s = c.args.bytes.now in
@@ -41,12 +41,20 @@ pub returns-then-first-eq-MINUS : goal.returns-then-first-eq-MINUS
 unfolding meaning network_operand
 returns-then-first-eq-MINUS c = let s = c.args.bytes.now in
     let x : get_or s 0 0 ≡ c.number-first.result = sym (c.number-first.ensures ∙ number_one s 0) in
-    rw (c.network_record-then-first-eq-MINUS.ensures withdrawn refl, x, ne_eqb c.number-first.result 43 c.if-first-eq-PLUS.false,
-        eq-eqb c.number-first.result 45 c.if-first-eq-MINUS.true) (on_side _ withdrawn (network_read (drop 1 s)))
+    rw (
+      c.network_record-then-first-eq-MINUS.ensures withdrawn refl,
+      x,
+      ne_eqb c.number-first.result 43 c.if-first-eq-PLUS.false,
+      eq-eqb c.number-first.result 45 c.if-first-eq-MINUS.true,
+    ) (on_side _ withdrawn (network_read (drop 1 s)))
 
 pub returns : goal.returns
 unfolding meaning network_operand
 returns c = let s = c.args.bytes.now in
     let x : get_or s 0 0 ≡ c.number-first.result = sym (c.number-first.ensures ∙ number_one s 0) in
-    rw (c.network_record-2.ensures either_side refl, x, ne_eqb c.number-first.result 43 c.if-first-eq-PLUS.false,
-        ne_eqb c.number-first.result 45 c.if-first-eq-MINUS.false) (on_side _ either_side (network_read s))
+    rw (
+      c.network_record-2.ensures either_side refl,
+      x,
+      ne_eqb c.number-first.result 43 c.if-first-eq-PLUS.false,
+      ne_eqb c.number-first.result 45 c.if-first-eq-MINUS.false,
+    ) (on_side _ either_side (network_read s))

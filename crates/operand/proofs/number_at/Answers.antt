@@ -31,7 +31,7 @@ returns-then-not-is_digit c = let a = c.args in
     let l = c.loop-end in
     let n : is_digit _ ≡ false = sym c.is_digit.ensures ∙ c.if-not-is_digit.true in
     number_ends a.s.now a.at a.limit l.end l.n l.invariant.4 (stops_here a.s.now l.end is_digit (omega arith) n) (omega arith) l.invariant.3
-        c.number_between.ensures
+    c.number_between.ensures
 
 pub returns-then-n-eq0 : goal.returns-then-n-eq0
 returns-then-n-eq0 c = let a = c.args in
@@ -60,7 +60,7 @@ returns-then-limit-n c = let a = c.args in
     let l = c.loop-end in
     let y : is_digit _ ≡ true = sym c.is_digit.ensures ∙ c.if-not-is_digit.false in
     read_none (number a.limit) a.s.now a.at a.limit
-        (sym l.invariant.4 ∙ over_at a.s.now a.limit (leb l.end a.at) l.n l.end (omega arith) y c.if-limit-n.true)
+    (sym l.invariant.4 ∙ over_at a.s.now a.limit (leb l.end a.at) l.n l.end (omega arith) y c.if-limit-n.true)
 
 pub overflow_add-end : goal.overflow_add-end
 overflow_add-end c = omega arith
@@ -76,9 +76,13 @@ loop-end-preserved c = let a = c.args in
     let z : pick (leb l.end a.at) true (leb 1 l.n) ≡ true = elim c.if-at-end.branch [
       | then-at-end+else-n-eq0 w ↦ second (leb l.end a.at) (le-leb 1 l.n (omega arith))
       | else-at-end w ↦ rw (le-leb l.end a.at (omega arith))
-    ] in
-    (omega arith, omega arith, omega arith, λ h. omega arith,
-        rw f (sym (taken_at a.s.now a.limit (leb l.end a.at) l.n l.end (omega arith) y z (omega arith)) ∙ l.invariant.4))
+    ] in (
+      omega arith,
+      omega arith,
+      omega arith,
+      λ h. omega arith,
+      rw f (sym (taken_at a.s.now a.limit (leb l.end a.at) l.n l.end (omega arith) y z (omega arith)) ∙ l.invariant.4),
+    )
 
 pub overflow_cast-n-2 : goal.overflow_cast-n-2
 overflow_cast-n-2 c = omega arith
@@ -87,4 +91,4 @@ pub returns : goal.returns
 returns c = let a = c.args in
     let l = c.loop-end in
     number_ends a.s.now a.at a.limit l.end l.n l.invariant.4 (stops_end a.s.now l.end is_digit (omega arith)) (omega arith) l.invariant.3
-        c.number_between-2.ensures
+    c.number_between-2.ensures

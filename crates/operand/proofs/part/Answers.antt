@@ -23,8 +23,10 @@ pub returns-then-s-end-ne46 : goal.returns-then-s-end-ne46
 unfolding part_read
 returns-then-s-end-ne46 c = let a = c.args in
     let s = a.s.now in
-    read_none part_read s a.at byte_limit (rw (said_some s c.number_at.ensures.said c.in-Read.is,
-        after_other s c.in-Read.end 46 c.if-s-end.false c.if-s-end-ne46.true))
+    read_none part_read s a.at byte_limit (rw (
+      said_some s c.number_at.ensures.said c.in-Read.is,
+      after_other s c.in-Read.end 46 c.if-s-end.false c.if-s-end-ne46.true,
+    ))
 
 pub returns : goal.returns
 unfolding part_read

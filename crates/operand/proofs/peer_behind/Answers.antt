@@ -41,7 +41,7 @@ returns-in_default c = let a = c.args in
     let b : is_blank (get_or s a.at 0) ≡ true = sym c.is_blank.ensures ∙ c.if-not-is_blank.false in
     let h : a.at < length s = c.if-bytes-at.false in
     let e : as_numeral (cut is_blank (drop (a.at + 1) s)).rest ≡ none = rw (← blanks_left s (a.at + 1) c.blanks_end-next.ensures)
-        (value_none c.as_numeral.ensures c.in_default.is) in
+    (value_none c.as_numeral.ensures c.in_default.is) in
     rw (drop-cons s a.at 0, b, ← add-one a.at, e)
 
 pub returns : goal.returns
@@ -51,5 +51,5 @@ returns c = let a = c.args in
     let b : is_blank (get_or s a.at 0) ≡ true = sym c.is_blank.ensures ∙ c.if-not-is_blank.false in
     let h : a.at < length s = c.if-bytes-at.false in
     let e : as_numeral (cut is_blank (drop (a.at + 1) s)).rest ≡ some c.in-Read.value = rw
-        (← blanks_left s (a.at + 1) c.blanks_end-next.ensures) (value_some c.as_numeral.ensures c.in-Read.is) in
+    (← blanks_left s (a.at + 1) c.blanks_end-next.ensures) (value_some c.as_numeral.ensures c.in-Read.is) in
     rw (c.head-2.ensures, drop-cons s a.at 0, b, ← add-one a.at, e)

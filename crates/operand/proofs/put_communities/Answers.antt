@@ -14,7 +14,7 @@ pub returns-in_default : goal.returns-in_default
 unfolding encode_all
 returns-in_default c = let a = c.args in
     rw (none_follow (meaning communities_name a.bytes.now) (sym c.in_default.is ∙ c.communities_operand-meant.ensures))
-        (ends (starts _ _ [] (omega arith) (omega arith)))
+    (ends (starts _ _ [] (omega arith) (omega arith)))
 
 pub returns : goal.returns
 returns c = rw (communities_follow c.args.bytes.now (sym c.in-Head.is ∙ c.communities_operand-meant.ensures)) c.put_items_from.ensures

@@ -56,6 +56,8 @@ returns-in-Communities c =
 pub returns-in_default : goal.returns-in_default
 unfolding operand_meaning encode_all
 returns-in_default c = let a = c.args in
-    rw (le-ltb text_limit (length a.bytes.now) c.if-bytes-gt-TEXT_LIMIT.false,
-        others_bare a.name c.in_default.not-Path c.in_default.not-Communities a.bytes.now) (ends
-        (starts _ _ [] (omega arith) (omega arith)))
+    rw (
+      le-ltb text_limit (length a.bytes.now) c.if-bytes-gt-TEXT_LIMIT.false,
+      others_bare a.name c.in_default.not-Path c.in_default.not-Communities a.bytes.now,
+    ) (ends
+    (starts _ _ [] (omega arith) (omega arith)))

@@ -15,7 +15,7 @@ pub returns-in_default : goal.returns-in_default
 unfolding encode_all
 returns-in_default c = let a = c.args in
     rw (none_follow (meaning path_name a.bytes.now) (sym c.in_default.is ∙ c.pattern-meant.ensures))
-        (ends (starts _ _ [] (omega arith) (omega arith)))
+    (ends (starts _ _ [] (omega arith) (omega arith)))
 
 pub optional_end-caret-requires : goal.optional_end-caret-requires
 optional_end-caret-requires c = blanks_within _ 0 c.blanks_end-start.ensures (omega arith)

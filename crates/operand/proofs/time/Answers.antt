@@ -15,7 +15,7 @@ pub returns-in_default : goal.returns-in_default
 unfolding meaning time_operand
 returns-in_default c = let s = c.args.bytes.now in
     let e : number seconds_limit (comparison s).rest ≡ none = rw (← c.comparison-sign.ensures.rest)
-        (said_none s c.number_at.ensures.said c.in_default.is) in
+    (said_none s c.number_at.ensures.said c.in_default.is) in
     rw e
 
 pub fraction-requires : goal.fraction-requires
@@ -25,12 +25,12 @@ pub returns-in_default-fraction : goal.returns-in_default-fraction
 unfolding meaning time_operand
 returns-in_default-fraction c = let s = c.args.bytes.now in
     let e : number seconds_limit (comparison s).rest ≡ some (read c.in-Read.seconds (drop c.in-Read.end s)) = rw
-        (← c.comparison-sign.ensures.rest) (said_some s c.number_at.ensures.said c.in-Read.is) in
+    (← c.comparison-sign.ensures.rest) (said_some s c.number_at.ensures.said c.in-Read.is) in
     rw (e, value_none c.fraction.ensures c.in_default-fraction.is)
 
 pub returns : goal.returns
 unfolding meaning time_operand head_fields head_of items_of
 returns c = let s = c.args.bytes.now in
     let e : number seconds_limit (comparison s).rest ≡ some (read c.in-Read.seconds (drop c.in-Read.end s)) = rw
-        (← c.comparison-sign.ensures.rest) (said_some s c.number_at.ensures.said c.in-Read.is) in
+    (← c.comparison-sign.ensures.rest) (said_some s c.number_at.ensures.said c.in-Read.is) in
     rw (c.head.ensures, c.comparison-sign.ensures.code, e, value_some c.fraction.ensures c.in-Read-fraction.is)

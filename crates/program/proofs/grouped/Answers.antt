@@ -35,9 +35,11 @@ loop-at-smaller c = omega (arith, fits c.loop-at.at _ c.args.program.now c.group
 pub loop-at-preserved : goal.loop-at-preserved
 loop-at-preserved c = let s = c.args.program.now in
     let l = c.loop-at in
-    let z = c.group_size-size.ensures in
-    (fits l.at _ s z l.invariant.0, rw (z, ← drop-drop (group_size (drop l.at s)) l.at s)
-    (sym (whole_next group_size group_sizes (drop l.at s) (λ e. c.if-size-eq0.false (z ∙ e))) ∙ l.invariant.1))
+    let z = c.group_size-size.ensures in (
+      fits l.at _ s z l.invariant.0,
+      rw (z, ← drop-drop (group_size (drop l.at s)) l.at s)
+          (sym (whole_next group_size group_sizes (drop l.at s) (λ e. c.if-size-eq0.false (z ∙ e))) ∙ l.invariant.1),
+    )
 
 pub returns : goal.returns
 returns c = let s = c.args.program.now in

@@ -65,9 +65,11 @@ loop-left-smaller c = omega arith
 pub loop-left-preserved : goal.loop-left-preserved
 loop-left-preserved c = let s = c.args.records.now in
     let l = c.loop-left in
-    let e = sym (c.holds_item.ensures ∙ ap (is_item _) c.fields_at.ensures) ∙ c.if-not-holds_item.false in
-    (omega arith, rw (← drop-drop record_size l.at s)
-        (sym (one_stands _ l.left (drop l.at s) (omega arith) (simp length-drop (omega arith)) e) ∙ l.invariant.1))
+    let e = sym (c.holds_item.ensures ∙ ap (is_item _) c.fields_at.ensures) ∙ c.if-not-holds_item.false in (
+      omega arith,
+      rw (← drop-drop record_size l.at s)
+          (sym (one_stands _ l.left (drop l.at s) (omega arith) (simp length-drop (omega arith)) e) ∙ l.invariant.1),
+    )
 
 pub returns : goal.returns
 returns c = let l = c.loop-left in

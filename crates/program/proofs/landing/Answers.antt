@@ -28,9 +28,11 @@ loop-at-smaller c = omega arith
 pub loop-at-preserved : goal.loop-at-preserved
 loop-at-preserved c = let s = c.args.program.now in
     let l = c.loop-at in
-    let e = sym c.lands.ensures ∙ c.if-not-lands.false in
-    (omega arith, rw (← drop-drop record_size l.at s)
-    (sym (checks_next landing_checks (length s) (drop l.at s) (simp length-drop (omega arith)) (simp length-drop (omega arith)) e) ∙ l.invariant.1))
+    let e = sym c.lands.ensures ∙ c.if-not-lands.false in (
+      omega arith,
+      rw (← drop-drop record_size l.at s)
+          (sym (checks_next landing_checks (length s) (drop l.at s) (simp length-drop (omega arith)) (simp length-drop (omega arith)) e) ∙ l.invariant.1),
+    )
 
 pub returns : goal.returns
 returns c = let s = c.args.program.now in

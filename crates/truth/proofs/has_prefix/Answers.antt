@@ -15,8 +15,10 @@ returns-then-f-eq1 c = let k = c in
 pub returns-then-f-eq2 : goal.returns-then-f-eq2
 returns-then-f-eq2 c = let k = c in
     let a = k.args in
-    rw (on_withdrawn a.f a.«record».now a.parts k.relation_of-relation.ensures c.if-f-eq2.true,
-        ← k.part_of-withdrawn.ensures) c.some_prefix-then-f-eq2.ensures
+    rw (
+      on_withdrawn a.f a.«record».now a.parts k.relation_of-relation.ensures c.if-f-eq2.true,
+      ← k.part_of-withdrawn.ensures,
+    ) c.some_prefix-then-f-eq2.ensures
 
 pub returns-then-f-ne0 : goal.returns-then-f-ne0
 returns-then-f-ne0 c = let k = c in
@@ -26,12 +28,21 @@ returns-then-f-ne0 c = let k = c in
 pub returns-then-some_prefix : goal.returns-then-some_prefix
 returns-then-some_prefix c = let k = c in
     let a = k.args in
-    rw (on_either a.f a.«record».now a.parts k.relation_of-relation.ensures c.if-f-ne0.false, ← k.part_of-announced.ensures,
-        ← c.some_prefix-2.ensures, c.if-some_prefix.true) refl
+    rw (
+      on_either a.f a.«record».now a.parts k.relation_of-relation.ensures c.if-f-ne0.false,
+      ← k.part_of-announced.ensures,
+      ← c.some_prefix-2.ensures,
+      c.if-some_prefix.true,
+    ) refl
 
 pub returns : goal.returns
 returns c = let k = c in
     let a = k.args in
-    rw (on_either a.f a.«record».now a.parts k.relation_of-relation.ensures c.if-f-ne0.false, ← k.part_of-announced.ensures,
-        ← k.part_of-withdrawn.ensures, ← c.some_prefix-2.ensures, c.if-some_prefix.false)
+    rw (
+      on_either a.f a.«record».now a.parts k.relation_of-relation.ensures c.if-f-ne0.false,
+      ← k.part_of-announced.ensures,
+      ← k.part_of-withdrawn.ensures,
+      ← c.some_prefix-2.ensures,
+      c.if-some_prefix.false,
+    )
     c.some_prefix-3.ensures

@@ -49,7 +49,7 @@ returns-then-not-has c = let a = c.args in
     let h = next finds_numbers {n = l.left} (l.left - 1) (drop l.at a.records.now) (omega arith) l.invariant.1 in
     let held = communities_of a.body.now in
     sym ((sym l.invariant.2 ∙ ap (holds_all held) (stands h c.fields_at-asked.ensures))
-        ∙ one_missing held _ _ (sym c.has.ensures ∙ c.if-not-has.true))
+    ∙ one_missing held _ _ (sym c.has.ensures ∙ c.if-not-has.true))
 
 pub overflow_add-at : goal.overflow_add-at
 overflow_add-at c = let a = c.args in
@@ -70,7 +70,7 @@ loop-left-preserved c = let a = c.args in
     let h = next finds_numbers {n = l.left} (l.left - 1) (drop l.at a.records.now) (omega arith) l.invariant.1 in
     let held = communities_of a.body.now in
     let same = sym (one_held held _ _ (sym c.has.ensures ∙ c.if-not-has.false))
-        ∙ sym (sym l.invariant.2 ∙ ap (holds_all held) (stands h c.fields_at-asked.ensures)) in
+    ∙ sym (sym l.invariant.2 ∙ ap (holds_all held) (stands h c.fields_at-asked.ensures)) in
     let after = drop-drop record_size l.at a.records.now in
     (omega (arith, h.fits, length-drop l.at a.records.now), rw after at h.rest, rw after at same)
 

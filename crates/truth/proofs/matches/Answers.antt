@@ -57,5 +57,8 @@ returns c = let a = c.args in
     let path = members_of (width_bytes a.width) a.path.now in
     let follow = sym c.follows.ensures ∙ c.if-not-follows.false in
     let start = sym c.is_start.ensures ∙ c.if-is_start.false in
-    rw (told a.f a.behind.now path _ (omega arith) follow c.following-count.ensures, free a.f _ path start,
-        ← c.is_end-end.ensures) c.matches_some.ensures
+    rw (
+      told a.f a.behind.now path _ (omega arith) follow c.following-count.ensures,
+      free a.f _ path start,
+      ← c.is_end-end.ensures,
+    ) c.matches_some.ensures

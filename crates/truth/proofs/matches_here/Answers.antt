@@ -84,7 +84,7 @@ pub returns-then-end : goal.returns-then-end
 returns-then-end c = let a = c.args in
     let l = c.loop-left in
     c.at_end.ensures ∙ sym (whole a.end _ _ _ (width_bytes a.width) a.path.now a.from l.c l.invariant.2
-        (none l.left (drop l.at a.records.now) (omega arith))
+    (none l.left (drop l.at a.records.now) (omega arith))
     ∙ at_last a.end (width_bytes a.width) a.path.now _ c.if-end.true)
 
 pub returns : goal.returns

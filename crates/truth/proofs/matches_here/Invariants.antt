@@ -12,7 +12,7 @@ abbrev pub invariant-loop-left : goal.invariant-loop-left
 invariant-loop-left l = (l.at ≤ length l.records)
     × (items_stand last_variant l.left (drop l.at l.records) ≡ true)
     × (matches_at l.end (items_in l.left (drop l.at l.records)) (width_bytes l.width) l.path l.c
-        ≡ matches_at l.end (items_in l.count l.records) (width_bytes l.width) l.path l.initial.c)
+    ≡ matches_at l.end (items_in l.count l.records) (width_bytes l.width) l.path l.initial.c)
 
 abbrev pub decreases-loop-left : goal.decreases-loop-left
 decreases-loop-left l = l.left

@@ -18,7 +18,7 @@ loop-width-init c = let a = c.args in
 pub returns-then-matches_here : goal.returns-then-matches_here
 returns-then-matches_here c = let a = c.args in
     sym (some_here _ _ (remaining (width_bytes a.width) a.path.now c.loop-width.c)
-        (sym (c.matches_here.ensures ∙ at_members _ _ _ _ _) ∙ c.if-matches_here.true)) ∙ c.loop-width.invariant
+    (sym (c.matches_here.ensures ∙ at_members _ _ _ _ _) ∙ c.if-matches_here.true)) ∙ c.loop-width.invariant
 
 pub loop-width-smaller : goal.loop-width-smaller
 loop-width-smaller c = omega (arith, ap length (member_view _ _ _ (sym c.member_at-next.ensures ∙ c.in-Member.is)))

@@ -49,4 +49,4 @@ returns c = let a = c.args in
     let s = a.section.now in
     let l = c.loop-at in
     sym (some_end a.relation (network_in a.operand) (drop l.at s)
-        (omega (arith, (prefix_sizes address_bits).fits (drop l.at s), length-drop l.at s))) ∙ l.invariant.1
+    (omega (arith, (prefix_sizes address_bits).fits (drop l.at s), length-drop l.at s))) ∙ l.invariant.1

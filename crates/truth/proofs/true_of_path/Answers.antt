@@ -13,8 +13,11 @@ returns-then-f-eq-LOOPS c = rw (ne_eqb _ _ c.if-f-eq-PATH.false, eq-eqb _ _ c.if
 
 pub returns-then-f-eq-BOGON : goal.returns-then-f-eq-BOGON
 unfolding path_test
-returns-then-f-eq-BOGON c = rw (ne_eqb _ _ c.if-f-eq-PATH.false, ne_eqb _ _ c.if-f-eq-LOOPS.false,
-    eq-eqb _ _ c.if-f-eq-BOGON.true) c.has_bogon.ensures
+returns-then-f-eq-BOGON c = rw (
+  ne_eqb _ _ c.if-f-eq-PATH.false,
+  ne_eqb _ _ c.if-f-eq-LOOPS.false,
+  eq-eqb _ _ c.if-f-eq-BOGON.true,
+) c.has_bogon.ensures
 
 pub returns : goal.returns
 unfolding path_test
