@@ -15,8 +15,9 @@ use cases::{fed, path, stored};
 #[derive(Clone, Copy)]
 struct Script {
     name: &'static str,
-    /// The crate that it has proved.
+    /// The crate that it has proved and built, and by which verb of `rt`.
     proved: &'static str,
+    verb: &'static str,
     /// The program that it has built.
     program: &'static str,
     /// Its exit status where nothing can be built.
@@ -29,13 +30,15 @@ const SCRIPTS: [Script; 2] = [
     Script {
         name: "grainlantern",
         proved: "grainlantern",
-        program: "target/bin/grainlantern",
+        verb: "run",
+        program: "crates/grainlantern/out/grainlantern",
         wrong: 1,
         sources: &["crates.txt", "crates/one/src/source"],
     },
     Script {
         name: "mrtgrep",
         proved: "grainlantern_c",
+        verb: "lib",
         program: "rust/target/release/mrtgrep",
         wrong: 2,
         sources: &[
@@ -55,6 +58,7 @@ impl Script {
         let folder = Path::new(self.program).parent().unwrap().display();
         format!(
             "#!/bin/sh
+cd \"${{0%/*}}/..\"
 echo \"${{0##*/}} $1\" >>calls
 cat
 echo '{says}'
@@ -82,8 +86,10 @@ chmod +x {program}
         for source in self.sources {
             write(source, b"");
         }
-        let crates = format!("one:\ntwo: one libc\nother: one\n{}: two io\n", self.proved);
+        let kind = if self.verb == "lib" { " staticlib" } else { "" };
+        let crates = format!("one:\ntwo: one\nother: one\n{}{kind}: two\n", self.proved);
         write("crates.txt", crates.as_bytes());
+        fs::create_dir_all(root.join("crates").join(self.proved)).unwrap();
         for tool in [
             "sh", "awk", "cat", "chmod", "dirname", "find", "head", "mkdir", "mv", "readlink",
             "tail", "uname",
@@ -147,7 +153,8 @@ fn they_are_built_once_and_again_after_a_change() {
         let root = script.ready("built");
         let builds = || {
             let calls = fs::read_to_string(root.join("calls")).unwrap();
-            calls.lines().filter(|call| *call == "rt check").count()
+            let build = format!("rt {}", script.verb);
+            calls.lines().filter(|call| *call == build).count()
         };
 
         let first = script.run(&root);
@@ -202,8 +209,8 @@ fn what_is_run_is_told() {
         script.run(&root);
         let calls = fs::read_to_string(root.join("calls")).unwrap();
         let wanted = match script.name {
-            "mrtgrep" => "rt check\ncargo build\n",
-            _ => "rt check\n",
+            "mrtgrep" => "rt lib\ncargo build\n",
+            _ => "rt run\n",
         };
         assert_eq!(calls, wanted);
         let log = fs::read_to_string(root.join(format!("target/{}.log", script.name))).unwrap();
@@ -217,11 +224,11 @@ fn the_crates_that_are_proved_are_told() {
     for script in SCRIPTS {
         let proved = script.proved;
         let says = format!(
-            "rt: one proved (unchanged since it was last proved)
-functions=1
-rt: two proved (7 s)
-rt: {proved} proved (19 s)
-rt: ok, 3 crates proved"
+            "crate one: modules loaded=12 checked=0
+logic=proved functions=1
+crate two: modules loaded=3 checked=40
+crate {proved}: modules loaded=3 checked=9
+logic=proved functions=3"
         );
         let root = script.repository(
             "told",
@@ -233,8 +240,8 @@ rt: ok, 3 crates proved"
         let lines: Vec<String> = said(&output).lines().skip(1).map(str::to_owned).collect();
         // three of the four: nothing needs `other`
         let wanted = [
-            format!("{name}: proved 2 of 3: two"),
-            format!("{name}: proved 3 of 3: {proved}"),
+            format!("{name}: checked two, of 3 crates at most"),
+            format!("{name}: checked {proved}, of 3 crates at most"),
         ];
         assert_eq!(lines, wanted);
     }

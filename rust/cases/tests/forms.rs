@@ -132,13 +132,14 @@ fn braced(text: &str) -> Option<(&str, &str, &str)> {
     None
 }
 
-/// A function's parameters and its body; its promise has braces too.
+/// A function's parameters and its body; each clause of its promise has braces too, and may have a name.
 fn function<'a>(source: &'a str, name: &str) -> Option<(&'a str, &'a str)> {
     let mut rest = behind(source, &format!("fn {name}"))?;
     let head = rest;
     loop {
         let (before, inside, after) = braced(rest)?;
-        if !before.ends_with(" requires ") && !before.ends_with(" ensures ") {
+        let mut last = before.split_whitespace().rev().take(2);
+        if !last.any(|word| word == "requires" || word == "ensures") {
             return Some((&head[..head.find(')')?], inside));
         }
         rest = after;
