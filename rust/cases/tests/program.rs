@@ -1,7 +1,9 @@
 //! The program `grainlantern`, run: what no proof speaks of, its input and output.
 
+use std::ffi::OsStr;
 use std::fs::{self, File};
 use std::io::{Seek, Write};
+use std::os::unix::ffi::OsStrExt;
 use std::path::{Path, PathBuf};
 use std::process::{Command, Output, Stdio};
 use std::thread::{self, sleep};
@@ -63,6 +65,17 @@ fn a_filter_that_cannot_be_read_is_an_empty_text() {
         assert_eq!(filtered(Path::new(name), &r), "refused 4 at 0\n", "{name}");
     }
     assert_eq!(filtered(&filter("empty", b""), &r), "refused 4 at 0\n");
+}
+
+#[test]
+fn a_file_whose_name_is_no_text_is_an_empty_text() {
+    let folder = Path::new(env!("CARGO_TARGET_TMPDIR"));
+    let file = folder.join(OsStr::from_bytes(b"no-text-\xFF.filter"));
+    fs::write(&file, KEEP_ALL).unwrap();
+    assert_eq!(filtered(&file, &bytes(R)), "refused 4 at 0\n");
+    // a name in UTF-8 beyond ASCII is one
+    let file = filter("na\u{ef}ve", KEEP_ALL.as_bytes());
+    assert_eq!(filtered(&file, &bytes(R)), R_LINE);
 }
 
 #[test]
