@@ -87,7 +87,7 @@ def sorted_out(status, log):
     if "logic=not-proved" not in log or any(file.startswith(("specs/", "src/")) for file, _, _ in found):
         return "ill", ""
     # a function with no proof file: the prover's own search doesn't show a part of it
-    found += [("search", part, "") for part in re.findall(r"^note: \S+: it is not proved that .*\(`([^`]*)`\)$", log, re.M)]
+    found += [("search", part, "") for part in re.findall(r"^note: \S+: it is not proved that .*\(`([^`]*)`\)", log, re.M)]
     unfit = any(UNFIT.search(message) for _, _, message in found)
     first = next((f"{file} {part}".strip() for file, part, message in found if UNFIT.search(message) or not unfit), "")
     return "unfit" if unfit else "fact", first
@@ -99,6 +99,12 @@ class Bench:
     def __init__(self, root, crate, work, limits, logs=None):
         self.root, self.crate, self.work, self.limits, self.logs = root, crate, work / crate, limits, logs
         self.numbers = itertools.count()
+
+    def stands(self):
+        """Stops where the crate isn't proved as it stands: every mutant would be refused."""
+        status, log = self.run("unchanged", {})
+        if status != 0:
+            raise SystemExit(f"{self.crate} isn't proved as it stands:\n{log[-2000:]}")
 
     def folder(self, label):
         """A copy of the repository, made once for each label."""

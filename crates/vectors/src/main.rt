@@ -6,7 +6,6 @@ ghost use Rattle.walk.specs.Steps.{step_of};
 
 use line::Wrote;
 use message::Decoded;
-use std::io;
 use walk::Step;
 
 // A run of three records: R, of 83 bytes; R32, of 84, which is R with a prefix of 32 bits; and R33, of 85, with one of 33.
@@ -33,24 +32,24 @@ const RUN: [u8; 252] = [
     0x0A, 0x01, 0x02, 0x03, 0x04,
 ];
 
-fn say(rt: &HostRuntime, text: &[u8]) -> io::Result<()> {
-    rt.write_all(text)
+fn say(rt: &HostRuntime, text: &[u8]) {
+    let _ = rt.write_all(text);
 }
 
-fn say_number(rt: &HostRuntime, n: u32) -> io::Result<()> {
+fn say_number(rt: &HostRuntime, n: u32) {
     let mut digits = [0u8; 10];
     let end = octets::put_decimal(&mut digits, 0, n);
-    say(rt, octets::part(&digits, 0, end))
+    say(rt, octets::part(&digits, 0, end));
 }
 
-fn say_refused(rt: &HostRuntime, n: u32) -> io::Result<()> {
-    say(rt, b"refused ")?;
-    say_number(rt, n)?;
-    say(rt, b"\n")
+fn say_refused(rt: &HostRuntime, n: u32) {
+    say(rt, b"refused ");
+    say_number(rt, n);
+    say(rt, b"\n");
 }
 
 // The lines of a record, laid into the room lent, or the refusal.
-fn tell(rt: &HostRuntime, record: &[u8], room: &mut [u8]) -> io::Result<()> {
+fn tell(rt: &HostRuntime, record: &[u8], room: &mut [u8]) {
     let decoded = message::decode(record);
     match decoded {
         Decoded::Refused(refusal) => say_refused(rt, message::number_of(refusal)),
@@ -65,53 +64,54 @@ fn tell(rt: &HostRuntime, record: &[u8], room: &mut [u8]) -> io::Result<()> {
 }
 
 // R with two bytes changed.
-fn tell_changed(rt: &HostRuntime, at: usize, b: u8, also: usize, c: u8) -> io::Result<()> {
+fn tell_changed(rt: &HostRuntime, at: usize, b: u8, also: usize, c: u8) {
     let mut run = RUN;
     octets::put(&mut run, at, b);
     octets::put(&mut run, also, c);
     let mut room = [0u8; 256];
-    tell(rt, octets::part(&run, 0, 83), &mut room)
+    tell(rt, octets::part(&run, 0, 83), &mut room);
 }
 
-fn tell_one(rt: &HostRuntime, at: usize, b: u8) -> io::Result<()> {
-    tell_changed(rt, at, b, at, b)
+fn tell_one(rt: &HostRuntime, at: usize, b: u8) {
+    tell_changed(rt, at, b, at, b);
 }
 
 // A prefix on its own.
-fn tell_network(rt: &HostRuntime, prefix: &[u8]) -> io::Result<()> {
+fn tell_network(rt: &HostRuntime, prefix: &[u8]) {
     if network::prefix_size(prefix, 0) == 0 {
-        return say(rt, b"no prefix\n");
+        say(rt, b"no prefix\n");
+        return;
     }
     let mut text = [0u8; 18];
     let end = network::put_network(&mut text, 0, network::network_at(prefix, 0));
-    say(rt, octets::part(&text, 0, end))?;
-    say(rt, b"\n")
+    say(rt, octets::part(&text, 0, end));
+    say(rt, b"\n");
 }
 
-fn refusals(rt: &HostRuntime) -> io::Result<()> {
-    say(rt, b"11, a length that is not the rest: ")?;
-    tell_one(rt, 11, 0x48)?;
-    say(rt, b"12, subtype 2: ")?;
-    tell_one(rt, 7, 2)?;
-    say(rt, b"13, family 2: ")?;
-    tell_one(rt, 23, 2)?;
-    say(rt, b"14, no marker: ")?;
-    tell_one(rt, 32, 0xFE)?;
-    say(rt, b"15, 200 withdrawn bytes: ")?;
-    tell_one(rt, 52, 200)?;
-    say(rt, b"16, an attribute of 200 bytes: ")?;
-    tell_one(rt, 74, 200)?;
-    say(rt, b"16, ORIGIN twice: ")?;
-    tell_one(rt, 73, 1)?;
-    say(rt, b"17, ORIGIN 3: ")?;
-    tell_one(rt, 58, 3)?;
+fn refusals(rt: &HostRuntime) {
+    say(rt, b"11, a length that is not the rest: ");
+    tell_one(rt, 11, 0x48);
+    say(rt, b"12, subtype 2: ");
+    tell_one(rt, 7, 2);
+    say(rt, b"13, family 2: ");
+    tell_one(rt, 23, 2);
+    say(rt, b"14, no marker: ");
+    tell_one(rt, 32, 0xFE);
+    say(rt, b"15, 200 withdrawn bytes: ");
+    tell_one(rt, 52, 200);
+    say(rt, b"16, an attribute of 200 bytes: ");
+    tell_one(rt, 74, 200);
+    say(rt, b"16, ORIGIN twice: ");
+    tell_one(rt, 73, 1);
+    say(rt, b"17, ORIGIN 3: ");
+    tell_one(rt, 58, 3);
     say(
         rt,
         b"16 and 17 both, ORIGIN 3 and an attribute of 200 bytes: ",
-    )?;
-    tell_changed(rt, 58, 3, 74, 200)?;
-    say(rt, b"18, a prefix of 25 bits in three bytes: ")?;
-    tell_one(rt, 79, 25)
+    );
+    tell_changed(rt, 58, 3, 74, 200);
+    say(rt, b"18, a prefix of 25 bits in three bytes: ");
+    tell_one(rt, 79, 25);
 }
 
 // What a reader answers at its third step over a run.
@@ -125,72 +125,71 @@ fn third_step(bytes: &[u8]) -> Step
 }
 
 // A place or a length; none here needs more than 32 bits.
-fn say_size(rt: &HostRuntime, n: usize) -> io::Result<()> {
+fn say_size(rt: &HostRuntime, n: usize) {
     if n < 4294967296 {
-        say_number(rt, n as u32)?;
+        say_number(rt, n as u32);
     }
-    Ok(())
 }
 
 // The third step over the run's bytes up to a place.
-fn tell_third(rt: &HostRuntime, end: usize) -> io::Result<()> {
+fn tell_third(rt: &HostRuntime, end: usize) {
     let run = RUN;
     let step = third_step(octets::part(&run, 0, end));
     match step {
         Step::Record { start, len } => {
-            say(rt, b"a record at ")?;
-            say_size(rt, start)?;
-            say(rt, b" of ")?;
-            say_size(rt, len)?;
-            say(rt, b" bytes\n")
+            say(rt, b"a record at ");
+            say_size(rt, start);
+            say(rt, b" of ");
+            say_size(rt, len);
+            say(rt, b" bytes\n");
         }
         Step::Done => say(rt, b"done\n"),
         Step::Cut { left } => {
-            say(rt, b"cut, ")?;
-            say_size(rt, left)?;
-            say(rt, b" bytes left\n")
+            say(rt, b"cut, ");
+            say_size(rt, left);
+            say(rt, b" bytes left\n");
         }
     }
 }
 
-fn third_steps(rt: &HostRuntime) -> io::Result<()> {
-    say(rt, b"third step over R, R32, R33: ")?;
-    tell_third(rt, 252)?;
-    say(rt, b"third step over R, R32: ")?;
-    tell_third(rt, 167)?;
-    say(rt, b"third step over R, R32, 84 bytes: ")?;
-    tell_third(rt, 251)?;
-    say(rt, b"third step over R, R32, 11 bytes: ")?;
-    tell_third(rt, 178)?;
-    say(rt, b"third step over R: ")?;
-    tell_third(rt, 83)?;
-    say(rt, b"third step over R, 11 bytes: ")?;
-    tell_third(rt, 94)
+fn third_steps(rt: &HostRuntime) {
+    say(rt, b"third step over R, R32, R33: ");
+    tell_third(rt, 252);
+    say(rt, b"third step over R, R32: ");
+    tell_third(rt, 167);
+    say(rt, b"third step over R, R32, 84 bytes: ");
+    tell_third(rt, 251);
+    say(rt, b"third step over R, R32, 11 bytes: ");
+    tell_third(rt, 178);
+    say(rt, b"third step over R: ");
+    tell_third(rt, 83);
+    say(rt, b"third step over R, 11 bytes: ");
+    tell_third(rt, 94);
 }
 
-fn main(rt: HostRuntime) -> io::Result<()> {
-    say(&rt, b"R: ")?;
-    tell_one(&rt, 0, 0x60)?;
+fn main(rt: HostRuntime) {
+    say(&rt, b"R: ");
+    tell_one(&rt, 0, 0x60);
     let run = RUN;
-    say(&rt, b"R in 71 bytes: ")?;
+    say(&rt, b"R in 71 bytes: ");
     let mut room = [0u8; 71];
-    tell(&rt, octets::part(&run, 0, 83), &mut room)?;
-    say(&rt, b"R in 70 bytes: ")?;
+    tell(&rt, octets::part(&run, 0, 83), &mut room);
+    say(&rt, b"R in 70 bytes: ");
     let mut short = [0u8; 70];
-    tell(&rt, octets::part(&run, 0, 83), &mut short)?;
-    say(&rt, b"17 0A 01 03: ")?;
-    tell_network(&rt, b"\x17\x0A\x01\x03")?;
-    say(&rt, b"20 0A 01 02 03: ")?;
-    tell_network(&rt, b"\x20\x0A\x01\x02\x03")?;
-    say(&rt, b"21 0A 01 02 03 04: ")?;
-    tell_network(&rt, b"\x21\x0A\x01\x02\x03\x04")?;
-    say(&rt, b"R with 17 0A 01 03: ")?;
-    tell_changed(&rt, 79, 0x17, 82, 0x03)?;
+    tell(&rt, octets::part(&run, 0, 83), &mut short);
+    say(&rt, b"17 0A 01 03: ");
+    tell_network(&rt, b"\x17\x0A\x01\x03");
+    say(&rt, b"20 0A 01 02 03: ");
+    tell_network(&rt, b"\x20\x0A\x01\x02\x03");
+    say(&rt, b"21 0A 01 02 03 04: ");
+    tell_network(&rt, b"\x21\x0A\x01\x02\x03\x04");
+    say(&rt, b"R with 17 0A 01 03: ");
+    tell_changed(&rt, 79, 0x17, 82, 0x03);
     let mut lines = [0u8; 256];
-    say(&rt, b"R with 20 0A 01 02 03: ")?;
-    tell(&rt, octets::part(&run, 83, 84), &mut lines)?;
-    say(&rt, b"R with 21 0A 01 02 03 04: ")?;
-    tell(&rt, octets::part(&run, 167, 85), &mut lines)?;
-    refusals(&rt)?;
-    third_steps(&rt)
+    say(&rt, b"R with 20 0A 01 02 03: ");
+    tell(&rt, octets::part(&run, 83, 84), &mut lines);
+    say(&rt, b"R with 21 0A 01 02 03 04: ");
+    tell(&rt, octets::part(&run, 167, 85), &mut lines);
+    refusals(&rt);
+    third_steps(&rt);
 }
