@@ -1,7 +1,7 @@
 // Filters MRT records: `grainlantern FILTERFILE < RECORDS` writes the lines of the records that the filter keeps.
 #![tactic(auto)]
 
-ghost use Rattle.std.specs.Prelude.{◌≡◌, ◌≤◌, length};
+ghost use Rattle.std.specs.Prelude.{◌≡◌, ◌≤◌, length, MatchResult};
 ghost use Rattle.grainlantern.specs.Refusal.{refusal_text, RefusedAt};
 ghost use Rattle.grainlantern.specs.Output.{Lent, kept_lines, OfRun};
 
@@ -24,33 +24,34 @@ const LINE_ROOM: usize = 65536;
 // One byte more than a text may have, so that one that is too long is seen.
 const FILTER_ROOM: usize = token::TEXT_LIMIT + 1;
 
-// Reads to the end of a file, or until the room is full, and answers the bytes read. A read that fails gives 0: what came before it would be
-// another filter.
-fn read_file<R: Read>(file: &mut R, room: &mut [u8]) -> usize {
-    let mut length = 0;
-    while length < room.len() {
-        match file.read(&mut room[length..]) {
-            Err(_) => return 0,
-            Ok(0) => return length,
-            Ok(more) => length += more,
-        }
-    }
-    length
-}
-
-// Reads until the room is full, the input ends or a read fails, and answers the bytes read.
-fn read_input<R: Read>(input: &mut R, room: &mut [u8]) -> usize
-    ensures { result ≤ length room.new }
+// Reads until the room is full or the input ends, and answers the bytes read; as an error those that came before a read that failed.
+fn read_full<R: Read>(input: &mut R, room: &mut [u8]) -> Result<usize, usize>
+    ensures { MatchResult result (λ n. n ≤ length room.new) (λ n. n ≤ length room.new) }
 {
     let mut length = 0;
     while length < room.len() {
         match input.read(&mut room[length..]) {
-            Err(_) => return length,
-            Ok(0) => return length,
+            Err(_) => return Err(length),
+            Ok(0) => return Ok(length),
             Ok(more) => length += more,
         }
     }
-    length
+    Ok(length)
+}
+
+// Reads a file and answers its bytes, as far as the room goes. A read that fails gives 0: what came before it would be another filter.
+fn read_file<R: Read>(file: &mut R, room: &mut [u8]) -> usize {
+    read_full(file, room).unwrap_or(0)
+}
+
+// Reads the input and answers the bytes read, those before a read that failed too.
+fn read_input<R: Read>(input: &mut R, room: &mut [u8]) -> usize
+    ensures { result ≤ length room.new }
+{
+    match read_full(input, room) {
+        Ok(length) => length,
+        Err(length) => length,
+    }
 }
 
 // Reads the filter that the first argument names, and answers its bytes. No argument, a name that is too long or no text, and a file that

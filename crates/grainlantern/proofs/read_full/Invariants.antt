@@ -1,6 +1,6 @@
--- The loop of `grainlantern::read_file`: the bytes read fit the room, and each turn reads some.
+-- The loop of `grainlantern::read_full`: the bytes read fit the room, and each turn reads some.
 use Rattle.std.proofs.Common.{length, ◌-◌, ◌≤◌}
-use Rattle.grainlantern.proofs.read_file.Given as goal
+use Rattle.grainlantern.proofs.read_full.Given as goal
 
 abbrev pub invariant-loop-length : goal.invariant-loop-length
 invariant-loop-length g l = l.length ≤ length l.room
