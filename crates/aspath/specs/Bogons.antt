@@ -1,7 +1,7 @@
 -- `-bogon-asn`: some number lies in the table of document 000.
 use Rattle.std.specs.Prelude.{ℕ, ◌≤◌, Bool, List, [], ◌∷◌, leb}
 use Rattle.octets.specs.Choice.{both}
-use Rattle.octets.specs.Lists.{Some, some_passes}
+use Rattle.octets.specs.Lists.{SomeMember, some_passes}
 use Rattle.aspath.specs.declared.Range.{Range}
 use Rattle.aspath.specs.Members.{Member, HoldsSome, some_held}
 
@@ -29,11 +29,11 @@ pub record Within (n : ℕ) (r : Range) : Type 0 where
 
 -- a number lies in some range of the table
 pub record Bogon (n : ℕ) : Type 0 where
-  pub listed : Some (Within n) bogons
+  pub listed : SomeMember (Within n) bogons
 
 -- some number of the path is one
 pub record HasBogon (path : List Member) : Type 0 where
-  pub some : Some (HoldsSome Bogon) path
+  pub some : SomeMember (HoldsSome Bogon) path
 
 -- ---- what the code computes
 

@@ -4,8 +4,7 @@ use native.Mathlib.Decide.{ℕ_discrete}
 use mathlib.Core.Path.{◌≡◌, refl, sym, ap, ◌∙◌}
 use mathlib.Core.Bool.{Bool, true, false}
 use mathlib.Core.List.{List, [], ◌∷◌, map}
-use mathlib.Core.Option
-use mathlib.Core.Option.{Option, some, none}
+use Rattle.std.specs.Prelude.{Option, Some, None, option_map}
 use lib.ListN.{length, get_or, drop}
 use lib.Seq.{drop-drop}
 use lib.Dec.{eqb}
@@ -52,8 +51,8 @@ found (At start len) = true
 found Absent = false
 
 abbrev present : {A : Type 0} → Option A → Bool
-present (some a) = true
-present none = false
+present (Some a) = true
+present None = false
 
 present_at : (s : List ℕ) (f : Found) → found f ≡ present (body_at s f)
 present_at s (At start len) = refl
@@ -65,7 +64,7 @@ first_present code [] = refl
 first_present code (r ∷ raws) = go (eqb r.code code) (first_present code raws)
   where
     go : (b : Bool) → present (first_body code raws) ≡ elem code (codes raws)
-        → present (pick b (some r.body) (first_body code raws)) ≡ pick b true (elem code (codes raws))
+        → present (pick b (Some r.body) (first_body code raws)) ≡ pick b true (elem code (codes raws))
     go true ih = refl
     go false ih = ih
 
@@ -77,23 +76,23 @@ code_found code s = present_at s (find_of code s) ∙ ap present (find_body code
 
 -- a question that just the attributes with a code answer, by their bodies
 pub record Asks {A : Type 0} (w : ℕ) (ask : Attribute → Option A) (give : List ℕ → A) (code : ℕ) : Type 0 where
-  pub answers : (r : Raw) → ask (said w r) ≡ pick (eqb r.code code) (some (give r.body)) none
+  pub answers : (r : Raw) → ask (said w r) ≡ pick (eqb r.code code) (Some (give r.body)) None
 
 module _ {A : Type 0} {w : ℕ} {ask : Attribute → Option A} {give : List ℕ → A} {code : ℕ} (asks : Asks w ask give code) where
   -- it is answered by the first body with the code
-  first_said : (raws : List Raw) → first_of ask (map (said w) raws) ≡ Option.map give (first_body code raws)
+  first_said : (raws : List Raw) → first_of ask (map (said w) raws) ≡ option_map give (first_body code raws)
   unfolding first_of first_body
   first_said [] = refl
   first_said (r ∷ raws) = rw (asks.answers r, first_said raws) (go (eqb r.code code))
     where
-      go : (b : Bool) → or_else (pick b (some (give r.body)) none) (Option.map give (first_body code raws))
-          ≡ Option.map give (pick b (some r.body) (first_body code raws))
+      go : (b : Bool) → or_else (pick b (Some (give r.body)) None) (option_map give (first_body code raws))
+          ≡ option_map give (pick b (Some r.body) (first_body code raws))
       go true = refl
       go false = refl
 
   -- of a section it is answered by the body that is found
-  pub first_found : (s : List ℕ) → first_of ask (attributes_of w s) ≡ Option.map give (body_at s (find_of code s))
-  first_found s = first_said (raws_of s) ∙ ap (Option.map give) (sym (find_body code s))
+  pub first_found : (s : List ℕ) → first_of ask (attributes_of w s) ≡ option_map give (body_at s (find_of code s))
+  first_found s = first_said (raws_of s) ∙ ap (option_map give) (sym (find_body code s))
 
 -- the six that are asked
 pub asks_origin : (w : ℕ) → Asks w ask_origin (λ body. get_or body 0 0) origin_code

@@ -1,6 +1,6 @@
 -- The attributes of an UPDATE, with what those that are looked at say.
 use Rattle.std.specs.Prelude.{ℕ, List, [], ◌∷◌}
-use Rattle.std.proofs.Math.Option.{Option, some, none}
+use Rattle.std.specs.Prelude.{Option, Some, None}
 use Rattle.octets.specs.Choice.{or_else}
 use Rattle.aspath.specs.Members.{Segment}
 
@@ -60,61 +60,61 @@ code_of (other code body) = code
 
 -- the first that a question answers
 unfoldable pub first_of : {A : Type 0} → (Attribute → Option A) → List Attribute → Option A
-first_of ask [] = none
+first_of ask [] = None
 first_of ask (a ∷ more) = or_else (ask a) (first_of ask more)
 
 -- the questions: what an ORIGIN, an AS_PATH, a NEXT_HOP, an AGGREGATOR, a COMMUNITY says, and whether it is an ATOMIC_AGGREGATE
 
 unfoldable pub ask_origin : Attribute → Option ℕ
-ask_origin (origin n) = some n
-ask_origin (as_path segments) = none
-ask_origin (next_hop a) = none
-ask_origin atomic_aggregate = none
-ask_origin (aggregator a) = none
-ask_origin (communities cs) = none
-ask_origin (other code body) = none
+ask_origin (origin n) = Some n
+ask_origin (as_path segments) = None
+ask_origin (next_hop a) = None
+ask_origin atomic_aggregate = None
+ask_origin (aggregator a) = None
+ask_origin (communities cs) = None
+ask_origin (other code body) = None
 
 unfoldable pub ask_path : Attribute → Option (List Segment)
-ask_path (origin n) = none
-ask_path (as_path segments) = some segments
-ask_path (next_hop a) = none
-ask_path atomic_aggregate = none
-ask_path (aggregator a) = none
-ask_path (communities cs) = none
-ask_path (other code body) = none
+ask_path (origin n) = None
+ask_path (as_path segments) = Some segments
+ask_path (next_hop a) = None
+ask_path atomic_aggregate = None
+ask_path (aggregator a) = None
+ask_path (communities cs) = None
+ask_path (other code body) = None
 
 unfoldable pub ask_next_hop : Attribute → Option ℕ
-ask_next_hop (origin n) = none
-ask_next_hop (as_path segments) = none
-ask_next_hop (next_hop a) = some a
-ask_next_hop atomic_aggregate = none
-ask_next_hop (aggregator a) = none
-ask_next_hop (communities cs) = none
-ask_next_hop (other code body) = none
+ask_next_hop (origin n) = None
+ask_next_hop (as_path segments) = None
+ask_next_hop (next_hop a) = Some a
+ask_next_hop atomic_aggregate = None
+ask_next_hop (aggregator a) = None
+ask_next_hop (communities cs) = None
+ask_next_hop (other code body) = None
 
 unfoldable pub ask_atomic : Attribute → Option (Unit {0})
-ask_atomic (origin n) = none
-ask_atomic (as_path segments) = none
-ask_atomic (next_hop a) = none
-ask_atomic atomic_aggregate = some tt
-ask_atomic (aggregator a) = none
-ask_atomic (communities cs) = none
-ask_atomic (other code body) = none
+ask_atomic (origin n) = None
+ask_atomic (as_path segments) = None
+ask_atomic (next_hop a) = None
+ask_atomic atomic_aggregate = Some tt
+ask_atomic (aggregator a) = None
+ask_atomic (communities cs) = None
+ask_atomic (other code body) = None
 
 unfoldable pub ask_aggregator : Attribute → Option Aggregator
-ask_aggregator (origin n) = none
-ask_aggregator (as_path segments) = none
-ask_aggregator (next_hop a) = none
-ask_aggregator atomic_aggregate = none
-ask_aggregator (aggregator a) = some a
-ask_aggregator (communities cs) = none
-ask_aggregator (other code body) = none
+ask_aggregator (origin n) = None
+ask_aggregator (as_path segments) = None
+ask_aggregator (next_hop a) = None
+ask_aggregator atomic_aggregate = None
+ask_aggregator (aggregator a) = Some a
+ask_aggregator (communities cs) = None
+ask_aggregator (other code body) = None
 
 unfoldable pub ask_communities : Attribute → Option (List ℕ)
-ask_communities (origin n) = none
-ask_communities (as_path segments) = none
-ask_communities (next_hop a) = none
-ask_communities atomic_aggregate = none
-ask_communities (aggregator a) = none
-ask_communities (communities cs) = some cs
-ask_communities (other code body) = none
+ask_communities (origin n) = None
+ask_communities (as_path segments) = None
+ask_communities (next_hop a) = None
+ask_communities atomic_aggregate = None
+ask_communities (aggregator a) = None
+ask_communities (communities cs) = Some cs
+ask_communities (other code body) = None

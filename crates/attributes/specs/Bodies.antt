@@ -2,7 +2,7 @@
 use Rattle.std.specs.Prelude.{ℕ, ◌+◌, ◌≤◌, ◌≡◌, Bool, true, false, List, [], ◌∷◌, ◌++◌, map, length, get_or, leb, eqb}
 use Rattle.octets.specs.Choice.{pick}
 use Rattle.octets.specs.Numbers.{number_at, Field}
-use Rattle.octets.specs.Lists.{Some}
+use Rattle.octets.specs.Lists.{SomeMember}
 use Rattle.octets.specs.Rows.{Joined, whole}
 use Rattle.aspath.specs.Wire.{SegmentBytes, segment_size, segments_of}
 use Rattle.network.specs.Networks.{address_size}
@@ -57,7 +57,7 @@ pub record Wrong (w : ℕ) (r : Raw) : Type 0 where
 
 -- some attribute of a list is so
 abbrev pub SomeWrong : ℕ → List Raw → Type 0
-SomeWrong w raws = Some (Wrong w) raws
+SomeWrong w raws = SomeMember (Wrong w) raws
 
 -- ---- what the code computes
 

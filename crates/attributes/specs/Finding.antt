@@ -1,6 +1,6 @@
 -- The first attribute of a section with a code.
 use Rattle.std.specs.Prelude.{ℕ, zero, suc, ◌+◌, List, [], ◌∷◌, length, get_or, drop, eqb}
-use Rattle.std.proofs.Math.Option.{Option, some, none}
+use Rattle.std.specs.Prelude.{Option, Some, None}
 use Rattle.octets.specs.Choice.{pick}
 use Rattle.octets.specs.Parts.{part_at}
 use Rattle.attributes.specs.declared.Found.{Found}
@@ -9,13 +9,13 @@ use Rattle.attributes.specs.Wire.{Raw, attribute_header, body_size, attribute_si
 
 -- its body
 unfoldable pub first_body : ℕ → List Raw → Option (List ℕ)
-first_body code [] = none
-first_body code (r ∷ more) = pick (eqb r.code code) (some r.body) (first_body code more)
+first_body code [] = None
+first_body code (r ∷ more) = pick (eqb r.code code) (Some r.body) (first_body code more)
 
 -- the bytes that an answer stands for
 abbrev pub body_at : List ℕ → Found → Option (List ℕ)
-body_at s (At start len) = some (part_at s start len)
-body_at s Absent = none
+body_at s (At start len) = Some (part_at s start len)
+body_at s Absent = None
 
 -- ---- what the code computes: l is what is left of the section from a place on, f bounds the attributes
 

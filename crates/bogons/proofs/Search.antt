@@ -10,7 +10,7 @@ use lib.Dec.{leb, ltb}
 use lib.ListN.{length}
 use borrow.Author.Tests.{leb-true, le-leb, ltb-true, ltb-false, lt-ltb, le-ltb}
 use Rattle.octets.specs.Choice.{pick}
-use Rattle.octets.specs.Lists.{Some, some_here, some_there}
+use Rattle.octets.specs.Lists.{SomeMember, some_here, some_there}
 use Rattle.octets.proofs.Choices.{never}
 use Rattle.bogons.specs.declared.Range.{Range}
 use Rattle.bogons.specs.declared.Lookup.{Lookup}
@@ -27,13 +27,13 @@ compared P false f g = g refl
 
 module _ {P : Range → Type 0} where
   -- a range at a place is some range
-  at_some : (rs : List Range) (i : ℕ) → i < length rs → P (range_at rs i) → Some P rs
+  at_some : (rs : List Range) (i : ℕ) → i < length rs → P (range_at rs i) → SomeMember P rs
   at_some [] i h p = absurd (omega arith)
   at_some (r ∷ rs) zero h p = some_here p
   at_some (r ∷ rs) (suc i) h p = some_there (at_some rs i (omega arith) p)
 
   -- some range stands at a place
-  some_at : {rs : List Range} → Some P rs → (i : ℕ) × (i < length rs) × P (range_at rs i)
+  some_at : {rs : List Range} → SomeMember P rs → (i : ℕ) × (i < length rs) × P (range_at rs i)
   some_at (some_here p) = (0, omega arith, p)
   some_at (some_there s) = let o = some_at s in (suc o.0, omega (arith, o.1), o.2)
 
@@ -92,13 +92,13 @@ module _ (n : ℕ) (rs : List Range) where
 
   -- ---- a number that is found lies in some range
 
-  search_sound : (t : Tree) (at : ℕ) → at + size t ≤ length rs → (range_at rs at).low ≤ n → (search t n rs at).found ≡ true → Some (Within n) rs
+  search_sound : (t : Tree) (at : ℕ) → at + size t ≤ length rs → (range_at rs at).low ≤ n → (search t n rs at).found ≡ true → SomeMember (Within n) rs
   unfolding search size
   search_sound leaf at h l =
-      compared (λ a. a.found ≡ true → Some (Within n) rs) (leb n (range_at rs at).high)
+      compared (λ a. a.found ≡ true → SomeMember (Within n) rs) (leb n (range_at rs at).high)
       (λ t e. at_some rs at (omega arith) (record { above = l; below = leb-true _ _ t })) (λ t e. never e)
   search_sound (node a b) at h l =
-      compared (λ a. a.found ≡ true → Some (Within n) rs) (ltb n (range_at rs (at + size a)).low)
+      compared (λ a. a.found ≡ true → SomeMember (Within n) rs) (ltb n (range_at rs (at + size a)).low)
       (λ t. search_sound a at (omega arith) l) (λ t. search_sound b (at + size a) (omega arith) (ltb-false _ _ t))
 
 -- ---- one that lies in a range is found, by the order of the table

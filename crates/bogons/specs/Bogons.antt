@@ -1,7 +1,7 @@
 -- Bogons: the AS numbers of document 000's table.
 use Rattle.std.specs.Prelude.{ℕ, ◌≤◌, Bool, List, [], ◌∷◌, leb}
 use Rattle.octets.specs.Choice.{both}
-use Rattle.octets.specs.Lists.{Some, some_passes}
+use Rattle.octets.specs.Lists.{SomeMember, some_passes}
 use Rattle.bogons.specs.declared.Range.{Range}
 
 abbrev pub range : ℕ → ℕ → Range
@@ -28,7 +28,7 @@ pub record Within (n : ℕ) (r : Range) : Type 0 where
 
 -- a number lies in some range of the table
 pub record Bogon (n : ℕ) : Type 0 where
-  pub listed : Some (Within n) bogons
+  pub listed : SomeMember (Within n) bogons
 
 -- ---- what the code computes
 

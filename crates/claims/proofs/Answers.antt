@@ -3,7 +3,7 @@ use Prim.Native.Nat.{ℕ}
 use native.Mathlib.Omega.{arith}
 use mathlib.Core.Path.{◌≡◌, refl, ap, ◌∙◌}
 use mathlib.Core.List.{List}
-use mathlib.Core.Option.{Option, some, none}
+use Rattle.std.specs.Prelude.{Option, Some, None}
 use lib.ListN.{take}
 use borrow.Author.Tests.{ne_eqb}
 use Rattle.filter.specs.declared.Refusal.{Refusal}
@@ -35,7 +35,7 @@ module _ (text buffer bytes lines : List ℕ) (counting : Option Tally) where
     unfolding compiling_in judging_in compiling_of
     promised_judged size is j new after e =
         let says : compiling_of (compiled.Program size) program ≡ our_compiler text buffer = rw is at promise in
-        let judges : some (judging_of j new after) ≡ judged_with our_judge (our_compiler text buffer) bytes lines counting = rw (← says) (ap some e) in
+        let judges : Some (judging_of j new after) ≡ judged_with our_judge (our_compiler text buffer) bytes lines counting = rw (← says) (ap Some e) in
         record { compiled = says; judged = judges; demand = demanded says judges; left_alone = λ n. absurd (n refl) }
 
     -- it doesn't
@@ -45,7 +45,7 @@ module _ (text buffer bytes lines : List ℕ) (counting : Option Tally) where
         let says : compiling_of (compiled.Refused why place) program ≡ our_compiler text buffer = rw is at promise in
         let number : number_of why ≡ (our_compiler text buffer).number = ap (λ (x : Compiling). x.number) says in
         let some_number : (our_compiler text buffer).number ≡ 0 → ⊥ = λ z. omega (arith, number, number_between why) in
-        let judges : ◌≡◌ {A = Option Judging} none (judged_with our_judge (our_compiler text buffer) bytes lines counting) = rw (ne_eqb _ _ some_number) refl in
+        let judges : ◌≡◌ {A = Option Judging} None (judged_with our_judge (our_compiler text buffer) bytes lines counting) = rw (ne_eqb _ _ some_number) refl in
         record {
           compiled = says;
           judged = judges;

@@ -3,7 +3,7 @@ use Prim.Native.Nat.{ℕ, ◌≤◌}
 use native.Mathlib.Omega.{arith}
 use mathlib.Core.Path.{◌≡◌, refl, ap}
 use mathlib.Core.List.{List}
-use mathlib.Core.Option.{Option, some, none}
+use Rattle.std.specs.Prelude.{Option, Some, None}
 use lib.ListN.{length}
 use Rattle.truth.proofs.Machines.{record_means}
 use Rattle.filter.specs.Answers as texts
@@ -71,12 +71,12 @@ one_more Lines counting h = absurd (omega arith)
 -- the others leave the tally
 as_it_was : (why : Refusal) (counting : Option Tally) → 19 ≤ records.number_of why → tallied (records.refused why) counting ≡ counting
 as_it_was (Record why) counting h = absurd (omega (arith, record_number why))
-as_it_was Program none h = refl
-as_it_was Program (some t) h = refl
-as_it_was Count none h = refl
-as_it_was Count (some t) h = refl
-as_it_was Lines none h = refl
-as_it_was Lines (some t) h = refl
+as_it_was Program None h = refl
+as_it_was Program (Some t) h = refl
+as_it_was Count None h = refl
+as_it_was Count (Some t) h = refl
+as_it_was Lines None h = refl
+as_it_was Lines (Some t) h = refl
 
 module _ (program bytes lines : List ℕ) (counting : Option Tally) where
   abbrev Given : records.RecordOutcome → Type 1

@@ -5,7 +5,7 @@ use mathlib.Core.Path.{◌≡◌, refl, sym, ap, ◌∙◌}
 use mathlib.Core.Bool.{Bool, true, false}
 use mathlib.Core.List.{List, ◌++◌}
 use mathlib.Core.Logic.{◌↔◌}
-use mathlib.Core.Option.{Option, some}
+use Rattle.std.specs.Prelude.{Option, Some}
 use lib.ListN.{length, drop}
 use lib.Seq.{take_at}
 use lib.Dec.{ltb}
@@ -118,7 +118,7 @@ module _ (text buffer : List ℕ) where
 
   -- where the text compiles, the record is judged
   judged_with_lem : (bytes lines : List ℕ) (counting : Option Tally) → (our_compiler text buffer).number ≡ 0
-      → judged_with our_judge (our_compiler text buffer) bytes lines counting ≡ some (our_judge (reported (our_compiler text buffer)) bytes lines counting)
+      → judged_with our_judge (our_compiler text buffer) bytes lines counting ≡ Some (our_judge (reported (our_compiler text buffer)) bytes lines counting)
   judged_with_lem bytes lines counting e = rw (eq-eqb _ _ e)
 
 -- ---- the verdict and what is spent of judging, by the verdict that is computed

@@ -4,7 +4,7 @@ use native.Mathlib.Omega.{arith}
 use mathlib.Core.Path.{◌≡◌, refl, ap}
 use mathlib.Core.Bool.{false}
 use mathlib.Core.List.{List, [], ◌∷◌, ◌++◌}
-use mathlib.Core.Option.{some, none}
+use Rattle.std.specs.Prelude.{Some, None}
 use lib.ListN.{length, get_or, drop, replicate, length-replicate}
 use borrow.Author.Tests.{eq-eqb}
 use Rattle.octets.specs.Lists.{some_here}
@@ -78,14 +78,14 @@ first_blank zero = refl
 first_blank (suc n) = refl
 
 -- no tally is not full
-pub uncounted : FullTally none → ⊥
+pub uncounted : FullTally None → ⊥
 uncounted f = never (tally_complete f)
 
 -- a tally that isn't full
 abbrev pub none_seen : Tally
 none_seen = tally 0 0 0 0
 
-pub room_to_count : FullTally (some none_seen) → ⊥
+pub room_to_count : FullTally (Some none_seen) → ⊥
 unfolding is_full
 room_to_count f = never (tally_complete f)
 
@@ -96,12 +96,12 @@ module _ {Verdict : Message → Reading → Type 0} {text : List ℕ} {r : Readi
 
   -- so a compiler for which demand 3 holds compiles it
   pub number_is : (compiler : Compiler) (judge : Judge) → DemandThree compiler judge → (compiler text buffer).number ≡ 0
-  number_is compiler judge d = (d.anywhere text buffer [] [] none).compiles.1 compiles
+  number_is compiler judge d = (d.anywhere text buffer [] [] None).compiles.1 compiles
 
   -- into the program of its reading
   records_are : (compiler : Compiler) (judge : Judge) → DemandThree compiler judge
       → ((compiler text buffer).value ≡ length (program_of r)) × ((compiler text buffer).buffer ≡ program_of r ++ drop (length (program_of r)) buffer)
-  records_are compiler judge d = (d.anywhere text buffer [] [] none).records (number_is compiler judge d) t.derives.derived
+  records_are compiler judge d = (d.anywhere text buffer [] [] None).records (number_is compiler judge d) t.derives.derived
 
   -- and reports that program's bytes
   pub reported_are : (compiler : Compiler) (judge : Judge) → DemandThree compiler judge → reported (compiler text buffer) ≡ program_of r
@@ -112,20 +112,20 @@ module _ {Verdict : Message → Reading → Type 0} {text : List ℕ} {r : Readi
   module _ (compiler : Compiler) (judge : Judge) where
     -- what is claimed of judging R with it, where another judge shows that the compiler compiles as demand 3 has it
     pub on_R : (other : Judge) (runner : Runner) → DemandThree compiler other → DemandTwo compiler judge runner → (lines : List ℕ)
-        → OnMessage r message_r lines (judge (reported (compiler text buffer)) record_r lines none)
-    on_R other runner c d lines = d.on_message {buffer = buffer} (number_is compiler other c) t.derives.derived record_represents lines none uncounted
+        → OnMessage r message_r lines (judge (reported (compiler text buffer)) record_r lines None)
+    on_R other runner c d lines = d.on_message {buffer = buffer} (number_is compiler other c) t.derives.derived record_represents lines None uncounted
 
     -- and of its verdict and what it spends on any message
     pub judged_on : DemandThree compiler judge → {m : Message} {bytes : List ℕ} → Represents m bytes → (lines : List ℕ)
-        → JudgedSo r m lines none (compiler text buffer) (judge (reported (compiler text buffer)) bytes lines none)
+        → JudgedSo r m lines None (compiler text buffer) (judge (reported (compiler text buffer)) bytes lines None)
     judged_on d {bytes = bytes} x lines =
         let e : (compiler text buffer).number ≡ 0 = number_is compiler judge d in
-        let y = (d.anywhere text buffer bytes lines none).judged e t.derives.derived x in
-        let same : judge (reported (compiler text buffer)) bytes lines none ≡ y.0 = cc (rw (eq-eqb _ _ e) at y.1) in
+        let y = (d.anywhere text buffer bytes lines None).judged e t.derives.derived x in
+        let same : judge (reported (compiler text buffer)) bytes lines None ≡ y.0 = cc (rw (eq-eqb _ _ e) at y.1) in
         rw same y.2
 
 -- judging R with `-loops` drops it
-pub loops_drop : judge_of (program_of (test has_loop)) record_r 0 (some none_seen) ≡ dropped (spent (test_holds message_r) (test has_loop))
+pub loops_drop : judge_of (program_of (test has_loop)) record_r 0 (Some none_seen) ≡ dropped (spent (test_holds message_r) (test has_loop))
 loops_drop =
     let p = reads_possible loops.derives.derived.reads in
     reading_judged (test has_loop) p (omega (arith, few_loops)) record_represents room_to_count 0 {b = false}

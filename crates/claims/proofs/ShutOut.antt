@@ -3,7 +3,7 @@ use Prim.Native.Nat.{ℕ, ◌≤◌}
 use native.Mathlib.Omega.{arith}
 use mathlib.Core.Path.{◌≡◌, refl, sym, ap, ◌∙◌}
 use mathlib.Core.List.{List, [], ◌∷◌, ◌++◌}
-use mathlib.Core.Option.{Option, some, none}
+use Rattle.std.specs.Prelude.{Option, Some, None}
 use lib.ListN.{length, get_or, replicate}
 use Rattle.header.specs.Header.{header_size}
 use Rattle.octets.specs.Numbers.{number_at, bytes_of}
@@ -64,8 +64,8 @@ abbrev tally_of : Judging → Option Tally
 tally_of j = j.tally
 
 abbrev seen_of : Option Tally → ℕ
-seen_of none = 0
-seen_of (some t) = t.seen
+seen_of None = 0
+seen_of (Some t) = t.seen
 
 -- beside a compiler that compiles as demand 3 has it
 module _ (compiler : Compiler) (other judge : Judge) (runner : Runner) (c : DemandThree compiler other) where
@@ -87,7 +87,7 @@ module _ (compiler : Compiler) (judge : Judge) where
   -- one that makes its steps up: `-bogon-asn -and -loops` takes two on R, and three on a record that has a bogon
   pub steps_made_up : {count : List ℕ → List ℕ → Option Tally → ℕ} → StepsMadeUp count judge → DemandThree compiler judge → ⊥
   steps_made_up {count} wrong d =
-      let steps : ℕ = count (reported (compiler bogon_and_loops_text buffer)) [] none in
+      let steps : ℕ = count (reported (compiler bogon_and_loops_text buffer)) [] None in
       let on_R = judged_on bogon_and_loops few_both compiler judge d record_represents [] in
       let on_zero = judged_on bogon_and_loops few_both compiler judge d zero_represents [] in
       let steps_of : Spent → ℕ = λ s. s.steps in
@@ -98,10 +98,10 @@ module _ (compiler : Compiler) (judge : Judge) where
   -- one that counts nothing: `-loops` drops R, which is one seen
   pub counts_nothing : CountsNothing judge → DemandOne compiler judge → ⊥
   counts_nothing wrong d =
-      let x = d.records (program_of (test has_loop)) record_r [] (some none_seen) (program_octets (test has_loop)) (represents_octets record_represents) in
+      let x = d.records (program_of (test has_loop)) record_r [] (Some none_seen) (program_octets (test has_loop)) (represents_octets record_represents) in
       let e : x.answer ≡ dropped (spent (test_holds message_r) (test has_loop)) =
       sym (only_judged (program_octets (test has_loop)) (represents_octets record_represents) x.given) ∙ loops_drop in
-      let same : some (one_dropped none_seen) ≡ some none_seen = sym (rw e at (ap tally_of x.is)) ∙ wrong _ _ _ _ in
+      let same : Some (one_dropped none_seen) ≡ Some none_seen = sym (rw e at (ap tally_of x.is)) ∙ wrong _ _ _ _ in
       let z : ◌≡◌ {A = ℕ} 1 0 = ap seen_of same in
       omega arith
 

@@ -1,6 +1,6 @@
 -- What `compile_and_judge` answers, as what compiling and judging answer; and what it leaves where compiling refuses.
 use Rattle.std.specs.Prelude.{ℕ, ◌≡◌, List}
-use Rattle.std.proofs.Math.Option.{Option, some, none}
+use Rattle.std.specs.Prelude.{Option, Some, None}
 use Rattle.filter.specs.declared.Compiled.TheVariants as compiled
 use Rattle.filter.specs.Functions.{Compiling, compiling_of, our_compiler}
 use Rattle.judge.specs.declared.Tally.{Tally}
@@ -13,8 +13,8 @@ use Rattle.claims.specs.Functions.{judged_with}
 use Rattle.claims.specs.DemandThree.{DemandThreeAt}
 
 abbrev pub counting_of : Counting → Option Tally
-counting_of Without = none
-counting_of (With t) = some t
+counting_of Without = None
+counting_of (With t) = Some t
 
 -- what compiling says in an answer, with the program buffer afterwards
 unfoldable pub compiling_in : Answer → List ℕ → Compiling
@@ -23,8 +23,8 @@ compiling_in (Refused why place) buffer = compiling_of (compiled.Refused why pla
 
 -- what judging does, with the line buffer and the tally afterwards; where compiling refuses, nothing is judged
 unfoldable pub judging_in : Answer → List ℕ → Option Tally → Option Judging
-judging_in (Judged bytes j) lines counting = some (judging_of j lines counting)
-judging_in (Refused why place) lines counting = none
+judging_in (Judged bytes j) lines counting = Some (judging_of j lines counting)
+judging_in (Refused why place) lines counting = None
 
 -- what is promised of an answer a, with program, new and after as the two buffers and the tally afterwards
 pub record Claimed (text buffer bytes lines : List ℕ) (counting : Option Tally) (a : Answer) (program new : List ℕ) (after : Option Tally)

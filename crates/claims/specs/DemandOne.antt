@@ -2,7 +2,7 @@
 -- that is lent, and the checker proves that the code ends. "It never asks its caller to have looked first": nothing is asked of the arguments but
 -- that bytes are bytes.
 use Rattle.std.specs.Prelude.{ℕ, ◌≤◌, ◌≡◌, true, List, ◌↔◌, length}
-use Rattle.std.proofs.Math.Option.{Option}
+use Rattle.std.specs.Prelude.{Option}
 use Rattle.octets.specs.Numbers.{Octets}
 use Rattle.message.specs.Message.{Message}
 use Rattle.message.specs.Represents.{Represents}

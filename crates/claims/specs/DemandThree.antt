@@ -1,6 +1,6 @@
 -- Demand 3, as a claim about a compiler and a judge: each clause under the demand's own words.
 use Rattle.std.specs.Prelude.{ℕ, ◌*◌, ◌≤◌, ◌≡◌, Bool, List, ◌++◌, ◌↔◌, length, drop}
-use Rattle.std.proofs.Math.Option.{Option, some}
+use Rattle.std.specs.Prelude.{Option, Some}
 use Rattle.octets.specs.Numbers.{Octets}
 use Rattle.message.specs.Message.{Message}
 use Rattle.message.specs.Represents.{Represents}
@@ -56,7 +56,7 @@ pub record DemandThreeAt (text buffer bytes lines : List ℕ) (counting : Option
       → (c.value ≡ length (program_of r)) × (c.buffer ≡ program_of r ++ drop (length (program_of r)) buffer)
   -- "Whichever readable record is then judged with that program, .."
   pub judged : {r : Reading} → c.number ≡ 0 → Derived text r → {m : Message} → Represents m bytes
-      → (answer : Judging) × (j ≡ some answer) × JudgedSo r m lines counting c answer
+      → (answer : Judging) × (j ≡ Some answer) × JudgedSo r m lines counting c answer
   -- "A text of allowed size and bytes, with closed quotes, that the grammar doesn't derive is refused at the first token that no continuation
   -- allows, or at its end if there is no such token, unless an earlier token opens a level too many."
   pub refused : Fine text → {tokens : List Placed} → Lexes 0 text tokens → ((r : Reading) → Derived text r → ⊥)

@@ -1,7 +1,7 @@
 -- What the demands speak of, as functions of all that is lent, so that a demand can be said of others too. A compiler stands in crate filter, a
 -- judge in crate judge, a runner in crate run; here is the walker.
 use Rattle.std.specs.Prelude.{ℕ, zero, suc, List, eqb}
-use Rattle.std.proofs.Math.Option.{Option, some, none}
+use Rattle.std.specs.Prelude.{Option, Some, None}
 use Rattle.octets.specs.Choice.{pick}
 use Rattle.walk.specs.declared.Step.{Step}
 use Rattle.walk.specs.Steps.{step_at, place_after}
@@ -11,7 +11,7 @@ use Rattle.judge.specs.Functions.{Judging, Judge}
 
 -- judging with the reported bytes, unchanged, where the text compiles; else nothing is judged
 abbrev pub judged_with : Judge → Compiling → List ℕ → List ℕ → Option Tally → Option Judging
-judged_with judge c bytes lines counting = pick (eqb c.number 0) (some (judge (reported c) bytes lines counting)) none
+judged_with judge c bytes lines counting = pick (eqb c.number 0) (Some (judge (reported c) bytes lines counting)) None
 
 -- of bytes and the place that is held: the answer, and the place held afterwards
 abbrev pub Walker : Type 0

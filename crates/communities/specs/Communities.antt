@@ -2,7 +2,7 @@
 use Rattle.std.specs.Prelude.{ℕ, ◌+◌, ◌*◌, ◌≡◌, Bool, List, length, eqb, ltb}
 use Rattle.octets.specs.Choice.{pick}
 use Rattle.octets.specs.Numbers.{number_at, Field}
-use Rattle.octets.specs.Lists.{Every, Some, some_passes, every_passes}
+use Rattle.octets.specs.Lists.{Every, SomeMember, some_passes, every_passes}
 use Rattle.octets.specs.Rows.{Joined, items}
 
 -- each half is below it
@@ -23,7 +23,7 @@ CommunitiesBytes cs bytes = Joined (Field community_size) cs bytes
 
 -- a community stands somewhere among those held
 abbrev pub Held : List ℕ → ℕ → Type 0
-Held held c = Some (λ (h : ℕ). h ≡ c) held
+Held held c = SomeMember (λ (h : ℕ). h ≡ c) held
 
 -- every one asked for does
 abbrev pub HoldsAll : List ℕ → List ℕ → Type 0

@@ -3,7 +3,7 @@ use Prim.Native.Nat.{ℕ, ◌+◌, ◌≤◌, max}
 use native.Mathlib.Nat.{le_refl}
 use native.Mathlib.Omega.{arith}
 use mathlib.Core.Path.{◌≡◌, ap, ◌∙◌, sym}
-use mathlib.Core.Option.{some}
+use Rattle.std.specs.Prelude.{Some}
 use mathlib.Core.List.{List, ◌++◌}
 use lib.ListN.{length, take, drop, length-append, take-append-drop}
 use lib.Seq.{take-append_seam}
@@ -42,7 +42,7 @@ open_level L ts more s e d = count_level L (ts ++ more) (length ts) s (rw (take-
 pub reached : (L : ℕ) (ts more : List Token) {r : Reading} (d : Reads expression (ts ++ more) r) → levels d ≤ L → (s : ReaderState) × (walk L start ts ≡ came s)
 reached L ts more {r} d l = by_walk (derived_walks L d l)
   where
-    by_walk : (s : ReaderState) × (walk L start (ts ++ more) ≡ came s) × (finish s ≡ some r) → (s : ReaderState) × (walk L start ts ≡ came s)
+    by_walk : (s : ReaderState) × (walk L start (ts ++ more) ≡ came s) × (finish s ≡ Some r) → (s : ReaderState) × (walk L start ts ≡ came s)
     by_walk (s, e, f) = let (x, p, q) = walk_split L start ts more s e in (x, p)
 
 -- what is read within a limit has no derivation with more levels
@@ -65,7 +65,7 @@ pub within_all : {ts : List Token} {r r' : Reading} (d : Reads expression ts r) 
     → (n : ℕ) → open_at d' n ≤ L
 within_all {ts} {r} d d' L w n = by_walk (derived_walks L d ((levels_open d L).1 w))
   where
-    by_walk : (s : ReaderState) × (walk L start ts ≡ came s) × (finish s ≡ some r) → open_at d' n ≤ L
+    by_walk : (s : ReaderState) × (walk L start ts ≡ came s) × (finish s ≡ Some r) → open_at d' n ≤ L
     by_walk (s, e, f) = (levels_open d' L).0 (levels_within L ts s e d') n
 
 -- all continuations agree on the number of open levels

@@ -2,7 +2,7 @@
 use Prim.Native.Nat.{ℕ, ◌+◌, ◌≤◌, max}
 use native.Mathlib.Omega.{arith}
 use mathlib.Core.Path.{◌≡◌, refl, ap, ◌∙◌}
-use mathlib.Core.Option.{some}
+use Rattle.std.specs.Prelude.{Some}
 use mathlib.Core.List.{List, [], ◌∷◌, ◌++◌}
 use Rattle.program.specs.Readings.{Test, and, or, Reading, test}
 use Rattle.token.specs.Tokens.{Word, Token, open', close, bang, word}
@@ -106,11 +106,11 @@ module _ (L : ℕ) where
 
   -- what is derived within the limit brings the reader to a state that ends with that reading
   pub derived_walks : {ts : List Token} {r : Reading} (d : Reads expression ts r) → levels d ≤ L
-      → (s : ReaderState) × (walk L start ts ≡ came s) × (finish s ≡ some r)
+      → (s : ReaderState) × (walk L start ts ≡ came s) × (finish s ≡ Some r)
   unfolding depth finish end
   derived_walks {ts} {r} d l = by_walk (reads_walk d whole (omega arith))
     where
-      by_walk : Walked L expression whole ts r → (s : ReaderState) × (walk L start ts ≡ came s) × (finish s ≡ some r)
+      by_walk : Walked L expression whole ts r → (s : ReaderState) × (walk L start ts ≡ came s) × (finish s ≡ Some r)
       by_walk (c, k, q, f) = (have c k, f, ap end q)
 
   -- what is derived within the limit is read so
@@ -118,7 +118,7 @@ module _ (L : ℕ) where
   unfolding read answered conclude
   complete {ts} {r} d w = by_walk (derived_walks d ((levels_open d L).1 w))
     where
-      by_walk : (s : ReaderState) × (walk L start ts ≡ came s) × (finish s ≡ some r) → answered (walk L start ts) ≡ ok r
+      by_walk : (s : ReaderState) × (walk L start ts ≡ came s) × (finish s ≡ Some r) → answered (walk L start ts) ≡ ok r
       by_walk (s, e, f) = ap answered e ∙ ap conclude f
 
 -- an expression has one reading

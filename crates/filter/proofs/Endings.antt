@@ -1,7 +1,7 @@
 -- Every state of the reader can be brought to an end, by closing what is open: so the tokens up to it lead on. Assumes nothing.
 use Prim.Native.Nat.{ℕ}
 use mathlib.Core.Path.{◌≡◌, refl, ap, ◌∙◌}
-use mathlib.Core.Option.{some}
+use Rattle.std.specs.Prelude.{Some}
 use mathlib.Core.List.{List, [], ◌∷◌, ◌++◌}
 use Rattle.program.specs.Readings.{Test, has_loop, and, or, Reading, test, neg, joint}
 use Rattle.token.specs.Tokens.{Word, Token, close, bang, word}
@@ -34,7 +34,7 @@ record Ends (L : ℕ) (s : ReaderState) (ts : List Token) : Type 0 where
   pub last : ReaderState
   pub reading : Reading
   pub walked : walk L s ts ≡ came last
-  pub finished : finish last ≡ some reading
+  pub finished : finish last ≡ Some reading
 
 -- a part that has been read in a hole, whatever it reads as, can be brought to the end
 abbrev Closes : ℕ → (p : Part) → Hole p → Type 0

@@ -2,7 +2,7 @@
 use Prim.Native.Nat.{ℕ, suc, ◌+◌, ◌*◌, ◌≤◌, ◌<◌}
 use native.Mathlib.Omega.{arith}
 use mathlib.Core.Path.{◌≡◌, refl, ap, ◌∙◌}
-use mathlib.Core.Option.{Option, some, none}
+use Rattle.std.specs.Prelude.{Option, Some, None}
 use mathlib.Core.Logic.{◌⊎◌, inl, inr}
 use mathlib.Core.List.{List}
 use lib.Seq.{sets}
@@ -54,7 +54,7 @@ unfolding depth
 depth_inside a_group h = refl
 depth_inside a_bang h = refl
 
-module _ {text : List ℕ} {t : Lexeme} {n : ℕ} (ready : Ready text t n) {a : Token} (x : Opener a) (token : token_in text t ≡ some a) where
+module _ {text : List ℕ} {t : Lexeme} {n : ℕ} (ready : Ready text t n) {a : Token} (x : Opener a) (token : token_in text t ≡ Some a) where
   -- a level too many
   pub opens_deep : {lv : ℕ} → level_limit ≤ lv → Stopped factor text lv t Level t.start
   unfolding begins level
@@ -79,7 +79,7 @@ unfolding Stood settle
 negation_stood r h s e = e
 
 -- `!` and a factor, with its flip
-module _ {text old mid new : List ℕ} {t l u : Lexeme} {lv n m p : ℕ} {r : Parsed} {f : Fields} (ready : Ready text t n) (token : token_in text t ≡ some bang) where
+module _ {text old mid new : List ℕ} {t l u : Lexeme} {lv n m p : ℕ} {r : Parsed} {f : Fields} (ready : Ready text t n) (token : token_in text t ≡ Some bang) where
   pub negation : lv < level_limit → l ≡ next_at text t.end → PartSays factor text (lv + 1) l n old r mid → r ≡ Upto u m → f ≡ fields flip_kind 0 0 0 0
       → Written mid (record_size * m) (laid f) new p → PartSays factor text lv t n old (Upto u (m + 1)) new
   unfolding Over weight
@@ -107,7 +107,7 @@ module _ {text old mid new : List ℕ} {t l u : Lexeme} {lv n m p : ℕ} {r : Pa
 -- ---- an expression that doesn't go on
 
 -- only `)`, `-and` and `-or` are taken behind factors
-stuck_behind : (c : Reading) (k : Hole conjunction) (a : Token) → (token_role a ≡ some (joins and) → ⊥) → (token_role a ≡ some (joins or) → ⊥)
+stuck_behind : (c : Reading) (k : Hole conjunction) (a : Token) → (token_role a ≡ Some (joins and) → ⊥) → (token_role a ≡ Some (joins or) → ⊥)
     → (a ≡ close → leave (outer c k) ≡ stuck) → move (have c k) a ≡ stuck
 unfolding move join
 stuck_behind c k open' x y f = refl
@@ -115,28 +115,28 @@ stuck_behind c k close x y f = f refl
 stuck_behind c k bang x y f = refl
 stuck_behind c k (word w) x y f = by_role (role_of w) x y
   where
-    by_role : (r : Option Role) → (r ≡ some (joins and) → ⊥) → (r ≡ some (joins or) → ⊥) → join c k r ≡ stuck
-    by_role none x y = refl
-    by_role (some (joins and)) x y = absurd (x refl)
-    by_role (some (joins or)) x y = absurd (y refl)
-    by_role (some (flag z)) x y = refl
-    by_role (some (name z)) x y = refl
+    by_role : (r : Option Role) → (r ≡ Some (joins and) → ⊥) → (r ≡ Some (joins or) → ⊥) → join c k r ≡ stuck
+    by_role None x y = refl
+    by_role (Some (joins and)) x y = absurd (x refl)
+    by_role (Some (joins or)) x y = absurd (y refl)
+    by_role (Some (flag z)) x y = refl
+    by_role (Some (name z)) x y = refl
 stuck_behind c k (quoted w) x y f = refl
 
 -- what was read as an expression, and neither goes on nor ends there
 pub unfinished : {text : List ℕ} {u : Lexeme} {m : ℕ} → Ready text u m → Over expression (from text u) → (h : Hole expression) (r : Reading) (s : ReaderState) → Stood expression r h s
-    → (token_in text u ≡ some close → leave (r, h) ≡ stuck) → (u.sort ≡ End → end (r, h) ≡ none) → run s (from text u) ≡ refused bad (bare (from text u))
+    → (token_in text u ≡ Some close → leave (r, h) ≡ stuck) → (u.sort ≡ End → end (r, h) ≡ None) → run s (from text u) ≡ refused bad (bare (from text u))
 unfolding Stood Over first_role bare finish conclude
 unfinished {text} {u} ready (x, y) h r s (c, k, e, f) p q = rw f (go (end_or_token ready))
   where
-    go : (u.sort ≡ End) ⊎ ((a : Token) × (token_in text u ≡ some a)) → run (have c k) (from text u) ≡ refused bad (bare (from text u))
+    go : (u.sort ≡ End) ⊎ ((a : Token) × (token_in text u ≡ Some a)) → run (have c k) (from text u) ≡ refused bad (bare (from text u))
     go (inl i) = rw (end_none ready i).0 (run_none (have c k) ∙ ap (λ o. conclude (end o)) e ∙ ap conclude (q i))
     go (inr (a, i)) =
         let role : first_role (from text u) ≡ token_role a = ap first_role (from_next ready i) in
-        run_stuck ready i (have c k) (stuck_behind c k a (λ z. x (role ∙ z)) (λ z. y (role ∙ z)) (λ z. ap leave e ∙ p (i ∙ ap some z)))
+        run_stuck ready i (have c k) (stuck_behind c k a (λ z. x (role ∙ z)) (λ z. y (role ∙ z)) (λ z. ap leave e ∙ p (i ∙ ap Some z)))
 
 -- `(` and an expression
-module _ {text old new : List ℕ} {t l u : Lexeme} {lv n m : ℕ} {r : Parsed} (ready : Ready text t n) (token : token_in text t ≡ some open') (d : lv < level_limit)
+module _ {text old new : List ℕ} {t l u : Lexeme} {lv n m : ℕ} {r : Parsed} (ready : Ready text t n) (token : token_in text t ≡ Some open') (d : lv < level_limit)
     (e : l ≡ next_at text t.end) (s : PartSays expression text (lv + 1) l n old r new) (x : r ≡ Upto u m) where
   -- what was read inside
   inner : Read expression text (lv + 1) (next_at text t.end) n old u m new
@@ -172,7 +172,7 @@ module _ {text old new : List ℕ} {t l u : Lexeme} {lv n m : ℕ} {r : Parsed} 
   unfolding Over Stood
   group {v} c f = rw f (says_read closes tt)
     where
-      shut : token_in text u ≡ some close
+      shut : token_in text u ≡ Some close
       shut = sort_token text u c
 
       by_run : (h : Hole factor) → depth h ≡ lv

@@ -4,7 +4,7 @@ use native.Mathlib.Nat.{le_refl}
 use native.Mathlib.Omega.{arith}
 use mathlib.Core.Path.{◌≡◌, refl}
 use mathlib.Core.Bool.{Bool, true, false}
-use mathlib.Core.Option.{Option, none, some}
+use Rattle.std.specs.Prelude.{Option, None, Some}
 use mathlib.Core.List.{List, [], ◌∷◌}
 use lib.Dec.{ltb}
 use borrow.Author.Tests.{ltb-true}
@@ -45,23 +45,23 @@ leave_level (r, grouping h) n e = let i : level (settle r h) ≤ depth h = settl
 
 begin_level : (t : Token) (h : Hole factor) (x : Option Role) → Leveled t (depth h) (begin h x)
 unfolding begin level
-begin_level t h (some (flag x)) = settle_level (test x) h
-begin_level t h (some (name k)) = le_refl (depth h)
-begin_level t h (some (joins o)) = tt
-begin_level t h none = tt
+begin_level t h (Some (flag x)) = settle_level (test x) h
+begin_level t h (Some (name k)) = le_refl (depth h)
+begin_level t h (Some (joins o)) = tt
+begin_level t h None = tt
 
 fill_level : (t : Token) (h : Hole factor) (x : Option Test) → Leveled t (depth h) (fill h x)
 unfolding fill
-fill_level t h none = tt
-fill_level t h (some x) = settle_level (test x) h
+fill_level t h None = tt
+fill_level t h (Some x) = settle_level (test x) h
 
 join_level : (t : Token) (r : Reading) (h : Hole conjunction) (x : Option Role) → Leveled t (depth h) (join r h x)
 unfolding join again level depth
-join_level t r h (some (joins and)) = le_refl (depth h)
-join_level t r h (some (joins or)) = omega (arith, outer_depth r h)
-join_level t r h (some (flag x)) = tt
-join_level t r h (some (name k)) = tt
-join_level t r h none = tt
+join_level t r h (Some (joins and)) = le_refl (depth h)
+join_level t r h (Some (joins or)) = omega (arith, outer_depth r h)
+join_level t r h (Some (flag x)) = tt
+join_level t r h (Some (name k)) = tt
+join_level t r h None = tt
 
 -- only a token that opens a level adds one
 pub move_level : (s : ReaderState) (t : Token) → Leveled t (level s) (move s t)

@@ -2,7 +2,7 @@
 use Prim.Native.Nat.{ℕ, ◌≤◌, max}
 use native.Mathlib.Omega.{arith}
 use mathlib.Core.Path.{◌≡◌, refl, ap, ◌∙◌, sym}
-use mathlib.Core.Option.{Option, none, some}
+use Rattle.std.specs.Prelude.{Option, None, Some}
 use mathlib.Core.List.{List, [], ◌∷◌, ◌++◌}
 use mathlib.Core.Logic.{◌↔◌}
 use lib.Dec.{ltb}
@@ -32,8 +32,8 @@ open_alive o = record { more = o.more; reading = o.reading; reads = o.reads }
 -- an operand that comes is taken, or breaks its test's rule
 fill_moves : (h : Hole factor) (x : Option Test) → fill h x ≡ stuck → ⊥
 unfolding fill
-fill_moves h none e = let z : ◌≡◌ {A = ℕ} 0 1 = cc in omega arith
-fill_moves h (some x) e = let z : ◌≡◌ {A = ℕ} 0 1 = cc in omega arith
+fill_moves h None e = let z : ◌≡◌ {A = ℕ} 0 1 = cc in omega arith
+fill_moves h (Some x) e = let z : ◌≡◌ {A = ℕ} 0 1 = cc in omega arith
 
 -- the state after tokens that are allowed, for some limit
 pub alive_reached : (L : ℕ) (ts : List Token) → Alive ts → (M : ℕ) × (s : ReaderState) × (L ≤ M) × (walk M start ts ≡ came s)
@@ -64,8 +64,8 @@ unfolding step admit fill
 operand_kept M k h {t} {v} o s e = by_meaning (meaning k v) refl
   where
     by_meaning : (m : Option Test) → meaning k v ≡ m → (x : Test) × StandsFor k v x
-    by_meaning (some x) p = (x, meaning_sound k v p)
-    by_meaning none p =
+    by_meaning (Some x) p = (x, meaning_sound k v p)
+    by_meaning None p =
         no_came _ e (walk_stop M (operand k h) broken t [] (ap (admit (ltb (level (operand k h)) M)) (operand_fills h k o ∙ ap (fill h) p)))
 
 -- a walk with a limit of L or more comes to a test's operand

@@ -3,7 +3,7 @@ use Prim.Native.Nat.{ℕ, ◌+◌, ◌≤◌, ◌<◌}
 use native.Mathlib.Omega.{arith}
 use mathlib.Core.Path.{◌≡◌, refl, sym, ap, ◌∙◌}
 use mathlib.Core.Bool.{Bool, true, false}
-use mathlib.Core.Option.{Option, some, none}
+use Rattle.std.specs.Prelude.{Option, Some, None}
 use mathlib.Core.Logic.{◌⊎◌, inl, inr}
 use mathlib.Core.List.{List}
 use lib.ListN.{length}
@@ -29,14 +29,14 @@ module _ {text : List ℕ} {t : Lexeme} {n : ℕ} (ready : Ready text t n) where
   ready_closed k = next_closed ready.closed (ap (λ (l : Lexeme). l.sort) ready.here ∙ k)
 
   -- the bytes of a token are no more than its places
-  pub token_sized : {a : Token} → token_in text t ≡ some a → length (bytes_in text t) + t.start ≤ t.end
+  pub token_sized : {a : Token} → token_in text t ≡ Some a → length (bytes_in text t) + t.start ≤ t.end
   token_sized token = rw ready.here at (next_token ready.closed (ap (token_in text) ready.here ∙ token)).sized
 
 -- a token that is ready is the end, or one of the language
-pub end_or_token : {text : List ℕ} {t : Lexeme} {n : ℕ} → Ready text t n → (t.sort ≡ End) ⊎ ((a : Token) × (token_in text t ≡ some a))
+pub end_or_token : {text : List ℕ} {t : Lexeme} {n : ℕ} → Ready text t n → (t.sort ≡ End) ⊎ ((a : Token) × (token_in text t ≡ Some a))
 end_or_token {text} {t} ready = by_sort t.sort refl
   where
-    by_sort : (k : Sort) → t.sort ≡ k → (t.sort ≡ End) ⊎ ((a : Token) × (token_in text t ≡ some a))
+    by_sort : (k : Sort) → t.sort ≡ k → (t.sort ≡ End) ⊎ ((a : Token) × (token_in text t ≡ Some a))
     by_sort End e = inl e
     by_sort Open e = inr (open', sort_token text t e)
     by_sort Close e = inr (close, sort_token text t e)
@@ -49,7 +49,7 @@ end_or_token {text} {t} ready = by_sort t.sort refl
 pub start_here : {text : List ℕ} {t : Lexeme} {n : ℕ} → Ready text t n → start_of (length text) (from text t) ≡ t.start
 start_here {text} {t} ready = go (end_or_token ready)
   where
-    go : (t.sort ≡ End) ⊎ ((a : Token) × (token_in text t ≡ some a)) → start_of (length text) (from text t) ≡ t.start
+    go : (t.sort ≡ End) ⊎ ((a : Token) × (token_in text t ≡ Some a)) → start_of (length text) (from text t) ≡ t.start
     go (inl e) = start_end ready e
     go (inr (a, e)) = start_token ready e
 
@@ -58,30 +58,30 @@ pub first_role_lem : {text : List ℕ} {t : Lexeme} {n : ℕ} → Ready text t n
 unfolding first_role
 first_role_lem {text} {t} ready = go (end_or_token ready)
   where
-    go : (t.sort ≡ End) ⊎ ((a : Token) × (token_in text t ≡ some a)) → first_role (from text t) ≡ role_in (token_in text t)
+    go : (t.sort ≡ End) ⊎ ((a : Token) × (token_in text t ≡ Some a)) → first_role (from text t) ≡ role_in (token_in text t)
     go (inl e) = ap first_role (end_none ready e).0 ∙ sym (ap role_in (sort_token text t e))
     go (inr (a, e)) = ap first_role (from_next ready e) ∙ sym (ap role_in e)
 
 -- a token with a role is a word
 pub record Worded (o : Option Token) (r : Role) : Type 0 where
   pub bytes : List ℕ
-  pub token : o ≡ some (word bytes)
-  pub role : role_of bytes ≡ some r
+  pub token : o ≡ Some (word bytes)
+  pub role : role_of bytes ≡ Some r
 
 -- and its bytes say that role
-pub worded : (o : Option Token) {r : Role} → role_in o ≡ some r → Worded o r
-worded none e = let z : ◌≡◌ {A = ℕ} 0 1 = cc in absurd (omega arith)
-worded (some open') e = let z : ◌≡◌ {A = ℕ} 0 1 = cc in absurd (omega arith)
-worded (some close) e = let z : ◌≡◌ {A = ℕ} 0 1 = cc in absurd (omega arith)
-worded (some bang) e = let z : ◌≡◌ {A = ℕ} 0 1 = cc in absurd (omega arith)
-worded (some (word w)) e = record { bytes = w; token = refl; role = e }
-worded (some (quoted w)) e = let z : ◌≡◌ {A = ℕ} 0 1 = cc in absurd (omega arith)
+pub worded : (o : Option Token) {r : Role} → role_in o ≡ Some r → Worded o r
+worded None e = let z : ◌≡◌ {A = ℕ} 0 1 = cc in absurd (omega arith)
+worded (Some open') e = let z : ◌≡◌ {A = ℕ} 0 1 = cc in absurd (omega arith)
+worded (Some close) e = let z : ◌≡◌ {A = ℕ} 0 1 = cc in absurd (omega arith)
+worded (Some bang) e = let z : ◌≡◌ {A = ℕ} 0 1 = cc in absurd (omega arith)
+worded (Some (word w)) e = record { bytes = w; token = refl; role = e }
+worded (Some (quoted w)) e = let z : ◌≡◌ {A = ℕ} 0 1 = cc in absurd (omega arith)
 
 -- few records stand for what is before a token
 pub ready_small : {text : List ℕ} {t : Lexeme} {n : ℕ} → Ready text t n → n ≤ text_limit
 ready_small ready = omega (arith, ready.few, ready.closed.here, ready.short)
 
-module _ {text : List ℕ} {t : Lexeme} {n : ℕ} (ready : Ready text t n) {a : Token} (token : token_in text t ≡ some a) {l : Lexeme} (next : l ≡ next_at text t.end) where
+module _ {text : List ℕ} {t : Lexeme} {n : ℕ} (ready : Ready text t n) {a : Token} (token : token_in text t ≡ Some a) {l : Lexeme} (next : l ≡ next_at text t.end) where
   -- the token behind one is ready, for as many records
   pub next_ready : Ready text l n
   next_ready = let r = ready_next ready token in rw next record { short = r.short; closed = r.closed; here = r.here; few = omega (arith, r.few) }
@@ -98,7 +98,7 @@ operator_said and = And
 operator_said or = Or
 
 -- an answer that says an operator is that one
-joint_said : (o : Operator) (r : Said) → role_said r ≡ some (joins o) → r ≡ operator_said o
+joint_said : (o : Operator) (r : Said) → role_said r ≡ Some (joins o) → r ≡ operator_said o
 joint_said o And e = let x : and ≡ o = cc in ap operator_said x
 joint_said o Or e = let x : or ≡ o = cc in ap operator_said x
 joint_said o Loops e = let z : ◌≡◌ {A = ℕ} 0 1 = cc in absurd (omega arith)
@@ -107,11 +107,11 @@ joint_said o (Named k) e = let z : ◌≡◌ {A = ℕ} 0 1 = cc in absurd (omega
 joint_said o Unknown e = let z : ◌≡◌ {A = ℕ} 0 1 = cc in absurd (omega arith)
 
 -- another answer says no such operator
-pub not_joint : (o : Operator) {x : Option Role} (r : Said) → role_said r ≡ x → (r ≡ operator_said o → ⊥) → x ≡ some (joins o) → ⊥
+pub not_joint : (o : Operator) {x : Option Role} (r : Said) → role_said r ≡ x → (r ≡ operator_said o → ⊥) → x ≡ Some (joins o) → ⊥
 not_joint o r s n e = n (joint_said o r (s ∙ e))
 
 -- `)` has its sort
-pub close_sort : (k : Sort) (w : Word) → token_of k w ≡ some close → k ≡ Close
+pub close_sort : (k : Sort) (w : Word) → token_of k w ≡ Some close → k ≡ Close
 close_sort End w e = let z : ◌≡◌ {A = ℕ} 0 1 = cc in absurd (omega arith)
 close_sort Open w e = let z : ◌≡◌ {A = ℕ} 0 1 = cc in absurd (omega arith)
 close_sort Close w e = refl
@@ -132,10 +132,10 @@ no_level Unclosed b o = refl
 
 -- a role that no test has
 abbrev pub no_test : Option Role → Bool
-no_test none = true
-no_test (some (joins o)) = true
-no_test (some (flag x)) = false
-no_test (some (name k)) = false
+no_test None = true
+no_test (Some (joins o)) = true
+no_test (Some (flag x)) = false
+no_test (Some (name k)) = false
 
 -- a word that is said to name no test
 pub no_test_said : (r : Said) → (r ≡ Loops → ⊥) → (r ≡ Bogons → ⊥) → ((k : Name) → r ≡ Named k → ⊥) → no_test (role_said r) ≡ true

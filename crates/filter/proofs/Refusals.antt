@@ -4,7 +4,7 @@ use native.Mathlib.Nat.{le_refl}
 use native.Mathlib.Omega.{arith}
 use mathlib.Core.Path.{◌≡◌, refl, ap, ◌∙◌}
 use mathlib.Core.Bool.{Bool, true, false}
-use mathlib.Core.Option.{Option, none, some}
+use Rattle.std.specs.Prelude.{Option, None, Some}
 use mathlib.Core.List.{List, [], ◌∷◌, ◌++◌, append_assoc, append-nil}
 use mathlib.Core.Logic.{◌↔◌}
 use lib.Dec.{ltb}
@@ -147,7 +147,7 @@ judged_end : (L : ℕ) (ts : List Token) (s : ReaderState) → walk L start ts �
 unfolding conclude
 judged_end L ts s e = by_end (finish s) refl (finish_at ts s (walk_at L ts s e))
   where
-    none_derived : finish s ≡ none → (r : Reading) → Reads expression ts r → ⊥
+    none_derived : finish s ≡ None → (r : Reading) → Reads expression ts r → ⊥
     none_derived p r d =
         let M : ℕ = max L (levels d) in
         let (x, f, q) = derived_walks M d (omega arith) in
@@ -155,8 +155,8 @@ judged_end L ts s e = by_end (finish s) refl (finish_at ts s (walk_at L ts s e))
         let z : ◌≡◌ {A = ℕ} 0 1 = cc in omega arith
 
     by_end : (o : Option Reading) → finish s ≡ o → Ended ts o → Judged L ts (conclude o)
-    by_end none p w = bad_end (leads L ts s e) (none_derived p)
-    by_end (some r) p w = reads w ((levels_open w L).0 (levels_within L ts s e w))
+    by_end None p w = bad_end (leads L ts s e) (none_derived p)
+    by_end (Some r) p w = reads w ((levels_open w L).0 (levels_within L ts s e w))
 
 walk_judged : (L : ℕ) (ts : List Token) (s : ReaderState) (us : List Token) → walk L start ts ≡ came s → Judged L (ts ++ us) (answered (walk L s us))
 unfolding walk follow answered
@@ -196,8 +196,8 @@ only L (at_token ts t us {w} l h) = stops L ts t us w l by_step
 only L (bad_end {ts} l none_of) = by_walk (leads_reached L ts l)
   where
     by_end : (o : Option Reading) → Ended ts o → conclude o ≡ refused bad []
-    by_end none w = refl
-    by_end (some r) w = absurd (none_of r w)
+    by_end None w = refl
+    by_end (Some r) w = absurd (none_of r w)
 
     by_walk : (s : ReaderState) × (walk L start ts ≡ came s) → answered (walk L start ts) ≡ refused bad []
     by_walk (s, e) = ap answered e ∙ by_end (finish s) (finish_at ts s (walk_at L ts s e))

@@ -2,7 +2,7 @@
 use Prim.Native.Nat.{ℕ}
 use mathlib.Core.Path.{◌≡◌, refl}
 use mathlib.Core.Bool.{true}
-use mathlib.Core.Option.{some, none}
+use Rattle.std.specs.Prelude.{Some, None}
 use mathlib.Core.List.{List, [], ◌∷◌}
 use Rattle.token.specs.Next.{bytes_in, token_of, token_in}
 use Rattle.token.specs.declared.Sort.{Sort}
@@ -22,12 +22,12 @@ unfolding vocabulary distinct found same
 words_differ = refl
 
 -- a role that was found is said
-pub role_said : (w : List ℕ) {r : Role} → role_of w ≡ some r → Says w r
+pub role_said : (w : List ℕ) {r : Role} → role_of w ≡ Some r → Says w r
 unfolding role_of
 role_said w e = found_sound vocabulary w e
 
 -- and none is missed
-pub said_role : {w : List ℕ} {r : Role} → Says w r → role_of w ≡ some r
+pub said_role : {w : List ℕ} {r : Role} → Says w r → role_of w ≡ Some r
 unfolding role_of
 said_role s = found_row words_differ s
 
@@ -55,10 +55,10 @@ names_differ = refl
 -- ---- tokens
 
 -- what is no word says nothing
-pub no_word : (text : List ℕ) (t : Lexeme) → (t.sort ≡ Word → ⊥) → role_in (token_in text t) ≡ none
+pub no_word : (text : List ℕ) (t : Lexeme) → (t.sort ≡ Word → ⊥) → role_in (token_in text t) ≡ None
 no_word text t n = go t.sort n
   where
-    go : (k : Sort) → (k ≡ Word → ⊥) → role_in (token_of k (bytes_in text t)) ≡ none
+    go : (k : Sort) → (k ≡ Word → ⊥) → role_in (token_of k (bytes_in text t)) ≡ None
     go End n = refl
     go Open n = refl
     go Close n = refl

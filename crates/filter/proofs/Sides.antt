@@ -2,7 +2,7 @@
 use Prim.Native.Nat.{ℕ, ◌+◌, ◌-◌, ◌*◌, ◌<◌}
 use native.Mathlib.Omega.{arith}
 use mathlib.Core.Path.{◌≡◌, refl, sym, ap, ◌∙◌}
-use mathlib.Core.Option.{some}
+use Rattle.std.specs.Prelude.{Some}
 use mathlib.Core.List.{List}
 use lib.ListN.{length}
 use lib.Seq.{sets, length-sets}
@@ -78,7 +78,7 @@ stood_behind and a b h s e = e
 stood_behind or a b h s e = (b, oring a h, refl, e)
 
 -- the operator's word behind what was read
-joins_moves : (o : Operator) (a : Reading) (h : Hole (chain o)) (s : ReaderState) (w : Word) → Stood (chain o) a h s → role_of w ≡ some (joins o)
+joins_moves : (o : Operator) (a : Reading) (h : Hole (chain o)) (s : ReaderState) (w : Word) → Stood (chain o) a h s → role_of w ≡ Some (joins o)
     → move s (word w) ≡ takes (begins (side o) (behind o a h))
 unfolding Stood begins move join again
 joins_moves and a h s w e q = rw e (ap (join a h) q)
@@ -128,15 +128,15 @@ module _ (o : Operator) {text old : List ℕ} {lv n : ℕ} {t : Lexeme} where
 
   module _ {u : Lexeme} {m : ℕ} {mid : List ℕ} (g : Sofar o text lv t n old u m mid) where
     -- no side more
-    pub sofar_last : (role_in (token_in text u) ≡ some (joins o) → ⊥) → PartSays (chain o) text lv t n old (Upto u m) mid
+    pub sofar_last : (role_in (token_in text u) ≡ Some (joins o) → ⊥) → PartSays (chain o) text lv t n old (Upto u m) mid
     unfolding Over
     sofar_last f = says_read g.read (by_operator o g.over (λ e. f (sym (first_role_lem g.ready) ∙ e)))
       where
-        by_operator : (o : Operator) → Over (side o) (from text u) → (first_role (from text u) ≡ some (joins o) → ⊥) → Over (chain o) (from text u)
+        by_operator : (o : Operator) → Over (side o) (from text u) → (first_role (from text u) ≡ Some (joins o) → ⊥) → Over (chain o) (from text u)
         by_operator and x f = f
         by_operator or x f = (x, f)
 
-    module _ (role : role_in (token_in text u) ≡ some (joins o)) where
+    module _ (role : role_in (token_in text u) ≡ Some (joins o)) where
       -- the operator's word
       operator_word : Worded (token_in text u) (joins o)
       operator_word = worded (token_in text u) role

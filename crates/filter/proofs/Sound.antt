@@ -3,7 +3,7 @@ use Prim.Native.Nat.{ℕ, ◌≤◌}
 use native.Mathlib.Omega.{arith}
 use mathlib.Core.Path.{◌≡◌, refl, ◌∙◌}
 use mathlib.Core.Bool.{Bool, true, false}
-use mathlib.Core.Option.{Option, none, some}
+use Rattle.std.specs.Prelude.{Option, None, Some}
 use mathlib.Core.List.{List, [], ◌∷◌, ◌++◌, append_assoc, append-nil}
 use lib.Dec.{ltb}
 use Rattle.program.specs.Readings.{Test, and, or, Reading}
@@ -63,8 +63,8 @@ Moved ts t stuck = Unit {0}
 Moved ts t breaks = (k : Name) × (h : Hole factor) × (v : Word) × At ts (operand k h) × Operand t v × ((x : Test) → StandsFor k v x → ⊥)
 
 abbrev pub Ended : List Token → Option Reading → Type 0
-Ended ts none = Unit {0}
-Ended ts (some r) = Reads expression ts r
+Ended ts None = Unit {0}
+Ended ts (Some r) = Reads expression ts r
 
 abbrev Came : List Token → Way → Type 0
 Came ts (came s) = At ts s
@@ -94,29 +94,29 @@ at_start = at_head (at_first at_whole)
 
 -- what a word and an operand lead to
 begin_at : (ts : List Token) (h : Hole factor) (w : Word) → Before factor ts h
-    → (x : Option Role) → ((y : Role) → x ≡ some y → Says w y) → Moved ts (word w) (begin h x)
+    → (x : Option Role) → ((y : Role) → x ≡ Some y → Says w y) → Moved ts (word w) (begin h x)
 unfolding begin
-begin_at ts h w b (some (flag x)) q = settle_at b (flagged (q (flag x) refl))
-begin_at ts h w b (some (name k)) q = (ts, w, refl, q (name k) refl, b)
-begin_at ts h w b (some (joins o)) q = tt
-begin_at ts h w b none q = tt
+begin_at ts h w b (Some (flag x)) q = settle_at b (flagged (q (flag x) refl))
+begin_at ts h w b (Some (name k)) q = (ts, w, refl, q (name k) refl, b)
+begin_at ts h w b (Some (joins o)) q = tt
+begin_at ts h w b None q = tt
 
 fill_at : (ts : List Token) (k : Name) (h : Hole factor) (o : Token) (v : Word) → Operand o v → At ts (operand k h)
-    → (x : Option Test) → ((y : Test) → x ≡ some y → StandsFor k v y) → ((y : Test) → StandsFor k v y → x ≡ some y) → Moved ts o (fill h x)
+    → (x : Option Test) → ((y : Test) → x ≡ Some y → StandsFor k v y) → ((y : Test) → StandsFor k v y → x ≡ Some y) → Moved ts o (fill h x)
 unfolding fill
-fill_at ts k h o v a i none m n = (k, h, v, i, a, λ y s. let z : ◌≡◌ {A = ℕ} 0 1 = cc (n y s) in omega arith)
-fill_at ts k h o v a (us, w, e, q, b) (some x) m n = rw (e, append_assoc us (word w ∷ []) (o ∷ [])) (settle_at b (tested q a (m x refl)))
+fill_at ts k h o v a i None m n = (k, h, v, i, a, λ y s. let z : ◌≡◌ {A = ℕ} 0 1 = cc (n y s) in omega arith)
+fill_at ts k h o v a (us, w, e, q, b) (Some x) m n = rw (e, append_assoc us (word w ∷ []) (o ∷ [])) (settle_at b (tested q a (m x refl)))
 
 join_at : (ts : List Token) (r : Reading) (h : Hole conjunction) (w : Word) → Had conjunction ts r h
-    → (x : Option Role) → ((y : Role) → x ≡ some y → Says w y) → Moved ts (word w) (join r h x)
+    → (x : Option Role) → ((y : Role) → x ≡ Some y → Says w y) → Moved ts (word w) (join r h x)
 unfolding join again
-join_at ts r h w (us, vs, e, b, d) (some (joins and)) q = rw (e, append_assoc us vs (word w ∷ [])) (at_and w (q (joins and) refl) b d)
-join_at ts r h w a (some (joins or)) q =
+join_at ts r h w (us, vs, e, b, d) (Some (joins and)) q = rw (e, append_assoc us vs (word w ∷ [])) (at_and w (q (joins and) refl) b d)
+join_at ts r h w a (Some (joins or)) q =
     let (us, vs, e, b, d) = outer_at a in
     rw (e, append_assoc us vs (word w ∷ [])) (at_head (at_or w (q (joins or) refl) b d))
-join_at ts r h w a (some (flag x)) q = tt
-join_at ts r h w a (some (name k)) q = tt
-join_at ts r h w a none q = tt
+join_at ts r h w a (Some (flag x)) q = tt
+join_at ts r h w a (Some (name k)) q = tt
+join_at ts r h w a None q = tt
 
 -- what a token leads to, by its move
 pub move_at : (ts : List Token) (s : ReaderState) (t : Token) → At ts s → Moved ts t (move s t)
@@ -156,19 +156,19 @@ module _ (L : ℕ) where
   walk_at ts s e = rw e at (walk_moves [] start ts at_start)
 
   -- where a walk comes to its end, what is read is derived
-  pub ended : (ts : List Token) (s : ReaderState) {r : Reading} → walk L start ts ≡ came s → finish s ≡ some r → Reads expression ts r
+  pub ended : (ts : List Token) (s : ReaderState) {r : Reading} → walk L start ts ≡ came s → finish s ≡ Some r → Reads expression ts r
   ended ts s e f = rw f at (finish_at ts s (walk_at ts s e))
 
   -- what is read has been walked
-  ok_walks : (ts : List Token) (r : Reading) → read L ts ≡ ok r → (s : ReaderState) × (walk L start ts ≡ came s) × (finish s ≡ some r)
+  ok_walks : (ts : List Token) (r : Reading) → read L ts ≡ ok r → (s : ReaderState) × (walk L start ts ≡ came s) × (finish s ≡ Some r)
   unfolding read answered conclude
   ok_walks ts r e = by_way (walk L start ts) refl e
     where
-      by_end : (o : Option Reading) → conclude o ≡ ok r → o ≡ some r
-      by_end none e = no_ok (conclude none) e refl
-      by_end (some r') e = cc
+      by_end : (o : Option Reading) → conclude o ≡ ok r → o ≡ Some r
+      by_end None e = no_ok (conclude None) e refl
+      by_end (Some r') e = cc
 
-      by_way : (w : Way) → walk L start ts ≡ w → answered w ≡ ok r → (s : ReaderState) × (walk L start ts ≡ came s) × (finish s ≡ some r)
+      by_way : (w : Way) → walk L start ts ≡ w → answered w ≡ ok r → (s : ReaderState) × (walk L start ts ≡ came s) × (finish s ≡ Some r)
       by_way (came s) p q = (s, p, by_end (finish s) q)
       by_way (stopped y us) p q = no_ok (answered (stopped y us)) q refl
 
@@ -176,5 +176,5 @@ module _ (L : ℕ) where
   pub sound : (ts : List Token) {r : Reading} → read L ts ≡ ok r → (d : Reads expression ts r) × ((n : ℕ) → open_at d n ≤ L)
   sound ts {r} e = by_walk (ok_walks ts r e)
     where
-      by_walk : (s : ReaderState) × (walk L start ts ≡ came s) × (finish s ≡ some r) → (d : Reads expression ts r) × ((n : ℕ) → open_at d n ≤ L)
+      by_walk : (s : ReaderState) × (walk L start ts ≡ came s) × (finish s ≡ Some r) → (d : Reads expression ts r) × ((n : ℕ) → open_at d n ≤ L)
       by_walk (s, p, q) = (ended ts s p q, (levels_open _ L).0 (levels_within L ts s p (ended ts s p q)))

@@ -2,7 +2,7 @@
 use Prim.Native.Nat.{ℕ, ◌+◌, ◌≤◌, ◌<◌}
 use native.Mathlib.Omega.{arith}
 use mathlib.Core.Path.{◌≡◌, refl, sym, ap, ◌∙◌}
-use mathlib.Core.Option.{some}
+use Rattle.std.specs.Prelude.{Some}
 use mathlib.Core.List.{List, [], ◌∷◌, ◌++◌, append_assoc}
 use lib.ListN.{length}
 use borrow.Author.Tests.{le-ltb}
@@ -35,7 +35,7 @@ module _ {text : List ℕ} {t : Lexeme} {n : ℕ} (ready : Ready text t n) where
   pub end_none : t.sort ≡ End → (from text t ≡ []) × (t.start ≡ length text)
   end_none k = let x = next_end ready.closed (ap (λ (l : Lexeme). l.sort) ready.here ∙ k) in (x.0, sym (ap (λ (l : Lexeme). l.start) ready.here) ∙ x.1)
 
-  module _ {a : Token} (token : token_in text t ≡ some a) where
+  module _ {a : Token} (token : token_in text t ≡ Some a) where
     took : Took text t.start t a
     took = rw ready.here at (next_token ready.closed (ap (token_in text) ready.here ∙ token))
 
@@ -112,7 +112,7 @@ pub passed_none : {text : List ℕ} {t : Lexeme} → Passed text t t
 passed_none = record { front = []; joined = refl }
 
 -- one
-pub passed_next : {text : List ℕ} {t : Lexeme} {n : ℕ} → Ready text t n → {a : Token} → token_in text t ≡ some a → Passed text t (next_at text t.end)
+pub passed_next : {text : List ℕ} {t : Lexeme} {n : ℕ} → Ready text t n → {a : Token} → token_in text t ≡ Some a → Passed text t (next_at text t.end)
 passed_next {t = t} ready {a} token = record { front = placed t.start a ∷ []; joined = from_next ready token }
 
 -- some, and then others

@@ -3,7 +3,7 @@ use Prim.Native.Nat.{ℕ, ◌≤◌}
 use native.Mathlib.Omega.{arith}
 use mathlib.Core.Path.{◌≡◌, refl, ap}
 use mathlib.Core.Bool.{true}
-use mathlib.Core.Option.{Option, some, none}
+use Rattle.std.specs.Prelude.{Option, Some, None}
 use mathlib.Core.List.{List, map}
 use lib.ListN.{length, length-append, length-map}
 use Rattle.aspath.specs.declared.Item.TheVariants.{Number}
@@ -34,7 +34,7 @@ use Rattle.operand.proofs.OperandCommunities.{community_reads}
 -- a token whose bytes decide where an operand is wanted
 pub record Offered (text : List ℕ) (o : Lexeme) : Type 0 where
   pub token : Token
-  pub is : token_in text o ≡ some token
+  pub is : token_in text o ≡ Some token
   pub moves : (k : Name) (h : Hole factor) → move (operand k h) token ≡ fill h (meaning k (bytes_in text o))
 
 -- a lexeme that may be an operand is such a token
@@ -54,7 +54,7 @@ offered text o e = go o.sort refl e
 -- the test that an answer's head is of, and how many records follow that
 pub record Headed (k : Name) (v : List ℕ) (f : Fields) (n : ℕ) : Type 0 where
   pub test : Test
-  pub means : operand_meaning k v ≡ some test
+  pub means : operand_meaning k v ≡ Some test
   pub head : f ≡ head_fields (head_of test)
   pub following : n ≡ length (following_of test)
 
@@ -63,16 +63,16 @@ pub headed : (k : Name) (v : List ℕ) {f : Fields} {n : ℕ} → Head f n ≡ m
 headed k v {f} {n} e = go (operand_meaning k v) refl e
   where
     go : (o : Option Test) → operand_meaning k v ≡ o → Head f n ≡ meant_of o → Headed k v f n
-    go none m e = let z : ◌≡◌ {A = ℕ} 0 1 = cc in absurd (omega arith)
-    go (some x) m e = record { test = x; means = m; head = cc; following = cc }
+    go None m e = let z : ◌≡◌ {A = ℕ} 0 1 = cc in absurd (omega arith)
+    go (Some x) m e = record { test = x; means = m; head = cc; following = cc }
 
 -- the operand breaks its test's rule
-pub none_meant : (k : Name) (v : List ℕ) → Broken ≡ meant_of (operand_meaning k v) → operand_meaning k v ≡ none
+pub none_meant : (k : Name) (v : List ℕ) → Broken ≡ meant_of (operand_meaning k v) → operand_meaning k v ≡ None
 none_meant k v e = go (operand_meaning k v) refl e
   where
-    go : (o : Option Test) → operand_meaning k v ≡ o → Broken ≡ meant_of o → operand_meaning k v ≡ none
-    go none m e = m
-    go (some x) m e = let z : ◌≡◌ {A = ℕ} 0 1 = cc in absurd (omega arith)
+    go : (o : Option Test) → operand_meaning k v ≡ o → Broken ≡ meant_of o → operand_meaning k v ≡ None
+    go None m e = m
+    go (Some x) m e = let z : ◌≡◌ {A = ℕ} 0 1 = cc in absurd (omega arith)
 
 -- an operand of at most a text's size means what is answered
 pub meaning_answered : (k : Name) (v : List ℕ) → length v ≤ text_limit → operand_meaning k v ≡ meaning k v

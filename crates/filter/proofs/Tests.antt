@@ -3,7 +3,7 @@ use Prim.Native.Nat.{ℕ, ◌+◌, ◌*◌, ◌≤◌, ◌<◌}
 use native.Mathlib.Omega.{arith}
 use mathlib.Core.Path.{◌≡◌, refl, sym, ap, ◌∙◌}
 use mathlib.Core.Bool.{true, false}
-use mathlib.Core.Option.{Option, some, none}
+use Rattle.std.specs.Prelude.{Option, Some, None}
 use mathlib.Core.List.{List, [], ◌∷◌, append-nil}
 use lib.ListN.{length, length-map}
 use lib.Seq.{sets}
@@ -44,17 +44,17 @@ use Rattle.filter.proofs.TestOperands.{Offered, offered, Headed, headed, none_me
 
 module _ {text : List ℕ} {t : Lexeme} {n : ℕ} (ready : Ready text t n) where
   -- at the end, in a state that wants more
-  pub run_end : (x : ReaderState) → t.sort ≡ End → finish x ≡ none → run x (from text t) ≡ refused bad (bare (from text t))
+  pub run_end : (x : ReaderState) → t.sort ≡ End → finish x ≡ None → run x (from text t) ≡ refused bad (bare (from text t))
   unfolding bare conclude
   run_end x k f = rw (end_none ready k).0 (run_none x ∙ ap conclude f)
 
 -- a word with such a role is not taken
 begin_stuck : (h : Hole factor) (r : Option Role) → no_test r ≡ true → begin h r ≡ stuck
 unfolding begin
-begin_stuck h none e = refl
-begin_stuck h (some (joins o)) e = refl
-begin_stuck h (some (flag x)) e = never e
-begin_stuck h (some (name k)) e = never e
+begin_stuck h None e = refl
+begin_stuck h (Some (joins o)) e = refl
+begin_stuck h (Some (flag x)) e = never e
+begin_stuck h (Some (name k)) e = never e
 
 module _ {text : List ℕ} {t : Lexeme} {n : ℕ} (ready : Ready text t n) where
   -- where a factor is wanted, a lexeme that opens no level and is no test
@@ -136,7 +136,7 @@ followed_says {x = x} {f = f} k c e w y =
 
 module _ {text : List ℕ} {t : Lexeme} {n : ℕ} (ready : Ready text t n) where
   -- a test with no operand
-  pub flag_taken : {u : Lexeme} {x : Test} → role_in (token_in text t) ≡ some (flag x) → items_of x ≡ [] → u ≡ next_at text t.end → Taken text t u x
+  pub flag_taken : {u : Lexeme} {x : Test} → role_in (token_in text t) ≡ Some (flag x) → items_of x ≡ [] → u ≡ next_at text t.end → Taken text t u x
   unfolding move begin weight
   flag_taken {u} {x} r i e =
       let w = worded (token_in text t) r in
@@ -150,7 +150,7 @@ module _ {text : List ℕ} {t : Lexeme} {n : ℕ} (ready : Ready text t n) where
         light = omega (arith, (token_within ready w.token).0, next_behind ready w.token, items_counted x, ap length i);
       })
 
-  module _ {k : Name} {o : Lexeme} (r : role_in (token_in text t) ≡ some (name k)) (e : o ≡ next_at text t.end) where
+  module _ {k : Name} {o : Lexeme} (r : role_in (token_in text t) ≡ Some (name k)) (e : o ≡ next_at text t.end) where
     -- the token behind a test's name is ready
     ready_operand : Ready text o (n + 1)
     ready_operand = rw e (ready_next ready (worded (token_in text t) r).token)

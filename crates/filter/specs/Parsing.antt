@@ -1,6 +1,6 @@
 -- What the grammar functions promise, said of the reader: whatever stands around a part, the reader goes on from where the part ends.
 use Rattle.std.specs.Prelude.{ℕ, ◌+◌, ◌*◌, ◌≤◌, ◌<◌, ◌≡◌, Bool, true, false, List, [], ◌∷◌, ◌++◌, length, drop}
-use Rattle.std.proofs.Math.Option.{Option, some, none}
+use Rattle.std.specs.Prelude.{Option, Some, None}
 use Rattle.std.proofs.lemmas.List.Edits.{sets}
 use Rattle.program.specs.Readings.{has_loop, has_bogon, and, or, Reading, weight}
 use Rattle.program.specs.Layout.{record_size}
@@ -28,12 +28,12 @@ use Rattle.filter.specs.declared.Parsed.TheVariants.{Upto, Refused}
 
 -- what the code's answer says of a word
 abbrev pub role_said : Role → Option words.Role
-role_said And = some (joins and)
-role_said Or = some (joins or)
-role_said Loops = some (flag has_loop)
-role_said Bogons = some (flag has_bogon)
-role_said (Named k) = some (name k)
-role_said Unknown = none
+role_said And = Some (joins and)
+role_said Or = Some (joins or)
+role_said Loops = Some (flag has_loop)
+role_said Bogons = Some (flag has_bogon)
+role_said (Named k) = Some (name k)
+role_said Unknown = None
 
 -- the rows of the tests that have an operand
 abbrev pub operand_rows : List (Row words.Role)
@@ -61,19 +61,19 @@ opens_level Unclosed = false
 
 -- the role of a token, if that is a word
 abbrev pub token_role : Token → Option words.Role
-token_role open' = none
-token_role close = none
-token_role bang = none
+token_role open' = None
+token_role close = None
+token_role bang = None
 token_role (word w) = role_of w
-token_role (quoted w) = none
+token_role (quoted w) = None
 
 abbrev pub role_in : Option Token → Option words.Role
-role_in none = none
-role_in (some t) = token_role t
+role_in None = None
+role_in (Some t) = token_role t
 
 -- the role of the first token
 unfoldable pub first_role : List Placed → Option words.Role
-first_role [] = none
+first_role [] = None
 first_role (p ∷ ps) = token_role p.token
 
 -- the tokens from one on
@@ -98,8 +98,8 @@ Stood factor r h s = s ≡ settle r h
 
 -- these tokens don't go on with the part
 unfoldable pub Over : Part → List Placed → Type 0
-Over expression ps = (first_role ps ≡ some (joins and) → ⊥) × (first_role ps ≡ some (joins or) → ⊥)
-Over conjunction ps = first_role ps ≡ some (joins and) → ⊥
+Over expression ps = (first_role ps ≡ Some (joins and) → ⊥) × (first_role ps ≡ Some (joins or) → ⊥)
+Over conjunction ps = first_role ps ≡ Some (joins and) → ⊥
 Over factor ps = Unit {0}
 
 -- t is the next token at its own place, every quote from there on is closed, and n records stand for what is before it

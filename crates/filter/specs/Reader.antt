@@ -1,6 +1,6 @@
 -- A reader of tokens from left to right, one step to a token: what the code computes. What is unfinished stands in a hole.
 use Rattle.std.specs.Prelude.{ℕ, suc, Bool, true, false, ltb}
-use Rattle.std.proofs.Math.Option.{Option, none, some}
+use Rattle.std.specs.Prelude.{Option, None, Some}
 use mathlib.Core.List.{List, [], ◌∷◌}
 use Rattle.program.specs.Readings.{Test, and, or, Reading, test, neg, joint}
 use Rattle.token.specs.Tokens.{Token, open', close, bang, word, quoted}
@@ -88,30 +88,30 @@ again e = head (oring e.0 e.1)
 
 -- an expression has been read, and the end comes
 unfoldable pub end : Reading × Hole expression → Option Reading
-end e = elim e.1 [ whole ↦ some e.0 | grouping h ↦ none ]
+end e = elim e.1 [ whole ↦ Some e.0 | grouping h ↦ None ]
 
 -- a word comes where a factor is wanted
 unfoldable pub begin : Hole factor → Option Role → Move
 unfolding settle
-begin h (some (flag x)) = takes (settle (test x) h)
-begin h (some (name k)) = takes (operand k h)
-begin h (some (joins o)) = stuck
-begin h none = stuck
+begin h (Some (flag x)) = takes (settle (test x) h)
+begin h (Some (name k)) = takes (operand k h)
+begin h (Some (joins o)) = stuck
+begin h None = stuck
 
 -- an operand comes
 unfoldable pub fill : Hole factor → Option Test → Move
 unfolding settle
-fill h none = breaks
-fill h (some x) = takes (settle (test x) h)
+fill h None = breaks
+fill h (Some x) = takes (settle (test x) h)
 
 -- a word comes after factors
 unfoldable pub join : Reading → Hole conjunction → Option Role → Move
 unfolding again outer
-join r h (some (joins and)) = takes (want (anding r h))
-join r h (some (joins or)) = takes (want (again (outer r h)))
-join r h (some (flag x)) = stuck
-join r h (some (name k)) = stuck
-join r h none = stuck
+join r h (Some (joins and)) = takes (want (anding r h))
+join r h (Some (joins or)) = takes (want (again (outer r h)))
+join r h (Some (flag x)) = stuck
+join r h (Some (name k)) = stuck
+join r h None = stuck
 
 -- whether there is room for a level more decides only of a token that opens one
 unfoldable pub admit : Bool → Move → Step
@@ -129,14 +129,14 @@ follow (stop w) k us = stopped w us
 -- the end comes: the reading, if the state may end
 unfoldable pub finish : ReaderState → Option Reading
 unfolding end outer
-finish (want h) = none
-finish (operand k h) = none
+finish (want h) = None
+finish (operand k h) = None
 finish (have r h) = end (outer r h)
 
 -- an end that is none is refused
 unfoldable pub conclude : Option Reading → ReaderAnswer
-conclude none = refused bad []
-conclude (some r) = ok r
+conclude None = refused bad []
+conclude (Some r) = ok r
 
 -- the answer, where the end comes after a walk
 unfoldable pub answered : Way → ReaderAnswer

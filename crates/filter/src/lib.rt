@@ -1,8 +1,7 @@
 // Filters: from a text to its program.
 #![tactic(auto)]
 
-ghost use Rattle.std.specs.Prelude.{◌≡◌, false, ◌≤◌, ◌<◌, ◌+◌, length};
-ghost use Rattle.std.proofs.Math.Option.{some};
+ghost use Rattle.std.specs.Prelude.{◌≡◌, false, ◌≤◌, ◌<◌, ◌+◌, length, Some};
 ghost use Rattle.token.specs.Texts.{text_limit};
 ghost use Rattle.token.specs.Next.{Closed, token_in};
 ghost use Rattle.filter.specs.Words.{role_of, name as a_name};
@@ -172,7 +171,7 @@ fn is_operand(sort: Sort) -> bool
 
 // A test that has an operand, which is the token behind its name.
 fn named(text: &[u8], name: Name, word: Lexeme, out: &mut [u8], n: usize) -> Parsed
-    requires { Ready text.now word n × (role_in (token_in text.now word) ≡ some (a_name name)) }
+    requires { Ready text.now word n × (role_in (token_in text.now word) ≡ Some (a_name name)) }
     ensures { TestSays text.now word n out.old result out.new }
 {
     let t = token::next(text, word.end);

@@ -5,7 +5,7 @@ use native.Mathlib.Decide.{dec_le}
 use native.Mathlib.Omega.{arith}
 use mathlib.Core.Path.{◌≡◌, refl, ap}
 use mathlib.Core.List.{List}
-use mathlib.Core.Option.{Option, some}
+use Rattle.std.specs.Prelude.{Option, Some}
 use lib.ListN.{length}
 use Rattle.header.specs.Header.{header_size}
 use Rattle.octets.specs.Numbers.{number_at}
@@ -43,7 +43,7 @@ onward judge program bytes at lines counting =
 -- before some step of the run from its start, the place, the line buffer and the tally are these
 pub record Reached (program records buffer : List ℕ) (at : ℕ) (lines : List ℕ) (t : Tally) : Type 0 where
   pub step : ℕ
-  pub state : state_of (runner_of our_judge) program records (begins buffer) step ≡ record { at = at; lines = lines; counting = some t }
+  pub state : state_of (runner_of our_judge) program records (begins buffer) step ≡ record { at = at; lines = lines; counting = Some t }
 
 pub reached_start : (program records buffer : List ℕ) → Reached program records buffer 0 buffer (tally 0 0 0 0)
 unfolding state_of
@@ -51,9 +51,9 @@ reached_start program records buffer = record { step = 0; state = refl }
 
 -- from there a step judges a record
 module _ {program records buffer : List ℕ} {at : ℕ} {lines : List ℕ} {t : Tally} (s : Reached program records buffer at lines t)
-    (ran : Ran) (new : List ℕ) (e : stepped ran new ≡ runner_of our_judge program records at lines (some t))
+    (ran : Ran) (new : List ℕ) (e : stepped ran new ≡ runner_of our_judge program records at lines (Some t))
     {said : Judged} {after : Tally} {next : ℕ} (g : ran ≡ ran_judged said after next) where
-  answers : answer_of (runner_of our_judge) program records (begins buffer) s.step ≡ judged (judging_of said new (some after)) next
+  answers : answer_of (runner_of our_judge) program records (begins buffer) s.step ≡ judged (judging_of said new (Some after)) next
   answers = rw (s.state, ← e, g)
 
   pub reached_lines : {bytes : List ℕ} → bytes ≡ kept_lines said new → OfRun program records bytes

@@ -1,6 +1,6 @@
 -- What is written for a good filter: the lines that the steps of a run hand out, with the program that the filter compiles to.
 use Rattle.std.specs.Prelude.{ℕ, ◌≡◌, List, [], take}
-use Rattle.std.proofs.Math.Option.{some}
+use Rattle.std.specs.Prelude.{Some}
 use Rattle.filter.specs.Functions.{reported, our_compiler}
 use Rattle.judge.specs.declared.Judged.{Judged}
 use Rattle.judge.specs.declared.Judged.TheVariants.{Kept, Dropped, Refused}
@@ -24,7 +24,7 @@ kept_lines (Refused why) lines = []
 
 -- where a run begins: at the first byte, with nothing counted
 abbrev pub begins : List ℕ → RunState
-begins lines = start lines (some (tally 0 0 0 0))
+begins lines = start lines (Some (tally 0 0 0 0))
 
 -- some step of the run over the records, from its start with some line buffer, hands out these bytes
 pub record OfRun (program records bytes : List ℕ) : Type 0 where
@@ -35,5 +35,5 @@ pub record OfRun (program records bytes : List ℕ) : Type 0 where
   pub lines : List ℕ
   pub counts : Tally
   pub next : ℕ
-  pub answers : answer_of (runner_of our_judge) program records (begins buffer) step ≡ judged (judging_of said lines (some counts)) next
+  pub answers : answer_of (runner_of our_judge) program records (begins buffer) step ≡ judged (judging_of said lines (Some counts)) next
   pub handed : bytes ≡ kept_lines said lines

@@ -1,8 +1,7 @@
 // The interface for C: numbers for answers, their values in four places that the caller lends.
 #![tactic(auto)]
 
-ghost use Rattle.std.specs.Prelude.{◌≡◌, List, [], ◌∷◌, ℕ};
-ghost use Rattle.std.proofs.Math.Option.{Option, some, none};
+ghost use Rattle.std.specs.Prelude.{◌≡◌, List, [], ◌∷◌, ℕ, Some, None, Option};
 ghost use Rattle.walk.specs.Steps.{step_at};
 ghost use Rattle.filter.specs.Functions.{our_compiler};
 ghost use Rattle.judge.specs.Functions.{judging_of, our_judge};
@@ -61,8 +60,8 @@ pub extern "C" fn grainlantern_judge(
     lines: &mut [u8],
     value: &mut [u64; 4],
 ) -> u32
-    ensures { (result, value.new, lines.new, none)
-        ≡ judged_for_c (our_judge program.now bytes.now lines.old none) }
+    ensures { (result, value.new, lines.new, None)
+        ≡ judged_for_c (our_judge program.now bytes.now lines.old None) }
 {
     let judged = judge::judge(program, bytes, lines);
     answer_judged(value, judged)
@@ -77,8 +76,8 @@ pub extern "C" fn grainlantern_judge_counted(
     tally: &mut Tally,
     value: &mut [u64; 4],
 ) -> u32
-    ensures { (result, value.new, lines.new, some tally.new)
-        ≡ judged_for_c (our_judge program.now bytes.now lines.old (some tally.old)) }
+    ensures { (result, value.new, lines.new, Some tally.new)
+        ≡ judged_for_c (our_judge program.now bytes.now lines.old (Some tally.old)) }
 {
     let judged = judge::judge_counted(program, bytes, lines, tally);
     answer_judged(value, judged)

@@ -2,7 +2,7 @@
 use Prim.Native.Nat.{ℕ, ◌+◌, ◌≤◌}
 use native.Mathlib.Omega.{arith}
 use mathlib.Core.Path.{◌≡◌, refl, sym, ap, ◌∙◌}
-use mathlib.Core.Option.{Option, some}
+use Rattle.std.specs.Prelude.{Option, Some}
 use mathlib.Core.List.{List}
 use lib.Dec.{eqb}
 use Rattle.octets.specs.Choice.{pick}
@@ -95,7 +95,7 @@ after_fits o {t} f n =
     by_outcome (refused Lines) a b c d = f
 
 -- where it is full, the answer is 20 or 21: so each count fits after judging with any tally
-pub answer_fits : {program bytes : List ℕ} {room : ℕ} {t : Tally} {o : RecordOutcome} → RecordAnswers program bytes room (some t) o → TallyFits t → TallyFits (tally_after o t)
+pub answer_fits : {program bytes : List ℕ} {room : ℕ} {t : Tally} {o : RecordOutcome} → RecordAnswers program bytes room (Some t) o → TallyFits t → TallyFits (tally_after o t)
 answer_fits (not_valid n) f = f
 answer_fits (full v x) f = f
 answer_fits {o = o} (unread v n x) f = after_fits o f (λ x. n (full_tally x))

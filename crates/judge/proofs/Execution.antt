@@ -3,7 +3,7 @@ use Prim.Native.Nat.{ℕ, zero, suc, ◌+◌, ◌*◌, ◌≤◌, ◌<◌}
 use native.Mathlib.Omega.{arith}
 use mathlib.Core.Path.{◌≡◌, refl, sym, ap, ◌∙◌}
 use mathlib.Core.Bool.{Bool, not}
-use mathlib.Core.Option.{some}
+use Rattle.std.specs.Prelude.{Some}
 use mathlib.Core.List.{List, ◌∷◌, ◌++◌}
 use lib.ListN.{length, get_or, take, drop, length-drop, drop_of_length-le}
 use lib.Seq.{drop-drop, drop-cons}
@@ -92,10 +92,10 @@ module _ (m : Message) (program : List ℕ) {rs : List Record} (r : Right progra
     fields_here : fields_in (drop (record_size * k) program) ≡ fields_of here
     fields_here = ap fields_in bytes_here ∙ record_read here (every_place r.possible flip k h) (encode_all (drop (suc k) rs))
 
-    decoded_here : decode (drop (record_size * k) program) ≡ some here
+    decoded_here : decode (drop (record_size * k) program) ≡ Some here
     decoded_here = ap decode bytes_here ∙ decode_encode here (every_place r.possible flip k h) (encode_all (drop (suc k) rs))
 
-    truth_here : truth_at m program (record_size * k) ≡ truth_of m (some here) (drop (suc k) rs)
+    truth_here : truth_at m program (record_size * k) ≡ truth_of m (Some here) (drop (suc k) rs)
     unfolding truth_at
     truth_here =
         let e : record_size * k + record_size ≡ record_size * suc k = omega arith in
@@ -115,12 +115,12 @@ module _ (m : Message) (program : List ℕ) {rs : List Record} (r : Right progra
 
   module _ (k : ℕ) (h : k < length rs) (s : MachineState) (at_k : s.at ≡ record_size * k) where
     -- by the record there
-    by_record : (x : Record) → get_or rs k flip ≡ x → state_after m program s ≡ state_by (class_of x) (fields_of x) (truth_of m (some x) (drop (suc k) rs)) s
+    by_record : (x : Record) → get_or rs k flip ≡ x → state_after m program s ≡ state_by (class_of x) (fields_of x) (truth_of m (Some x) (drop (suc k) rs)) s
     unfolding state_after
     by_record x e =
         let f : fields_in (drop s.at program) ≡ fields_of x = ap (λ (n : ℕ). fields_in (drop n program)) at_k ∙ fields_here k h ∙ ap fields_of e in
-        let t : truth_at m program s.at ≡ truth_of m (some x) (drop (suc k) rs)
-        = ap (truth_at m program) at_k ∙ truth_here k h ∙ ap (λ (y : Record). truth_of m (some y) (drop (suc k) rs)) e in
+        let t : truth_at m program s.at ≡ truth_of m (Some x) (drop (suc k) rs)
+        = ap (truth_at m program) at_k ∙ truth_here k h ∙ ap (λ (y : Record). truth_of m (Some y) (drop (suc k) rs)) e in
         ap (λ (g : Fields). state_by (class_is g.kind) g (truth_at m program s.at) s) f
         ∙ ap (λ (c : Class). state_by c (fields_of x) (truth_at m program s.at) s) (class_kind x)
         ∙ ap (λ (b : Bool). state_by (class_of x) (fields_of x) b s) t

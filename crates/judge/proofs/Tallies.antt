@@ -1,7 +1,7 @@
 -- Tallies that are full: `is_full` decides `Full`, and `is_full_tally` decides `FullTally`. Assumes nothing.
 use mathlib.Core.Path.{◌≡◌}
 use mathlib.Core.Bool.{true}
-use mathlib.Core.Option.{Option, some, none}
+use Rattle.std.specs.Prelude.{Option, Some, None}
 use lib.Dec.{eqb}
 use borrow.Author.Tests.{eqb-true, eq-eqb}
 use Rattle.octets.proofs.Choices.{never, either, second}
@@ -28,8 +28,8 @@ full_complete {t} (refused h) =
 
 -- a tally that is found full is one, and judging without one never is
 pub tally_sound : (counting : Option Tally) → is_full_tally counting ≡ true → FullTally counting
-tally_sound none e = never e
-tally_sound (some t) e = full (full_sound t e)
+tally_sound None e = never e
+tally_sound (Some t) e = full (full_sound t e)
 
 -- no full tally is missed, where there may be none
 pub tally_complete : {counting : Option Tally} → FullTally counting → is_full_tally counting ≡ true

@@ -1,6 +1,6 @@
 -- Judging as a function of all that is lent, so that a claim can be said of another judge too; and ours.
 use Rattle.std.specs.Prelude.{ℕ, List, length}
-use Rattle.std.proofs.Math.Option.{Option, some, none}
+use Rattle.std.specs.Prelude.{Option, Some, None}
 use Rattle.program.specs.declared.Spent.{Spent}
 use Rattle.program.specs.Spent.{nothing}
 use Rattle.judge.specs.declared.Judged.{Judged}
@@ -40,8 +40,8 @@ said_of (refused why) = (number_of why, nothing, 0)
 
 -- what it does to a tally or none
 abbrev pub counted : RecordOutcome → Option Tally → Option Tally
-counted o none = none
-counted o (some t) = some (tally_after o t)
+counted o None = None
+counted o (Some t) = Some (tally_after o t)
 
 -- both, with the line buffer
 abbrev pub judgement : RecordOutcome → List ℕ → Option Tally → Judging

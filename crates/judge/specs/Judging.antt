@@ -1,6 +1,6 @@
 -- The answer of judging, as the code computes it.
 use Rattle.std.specs.Prelude.{ℕ, Bool, List, length, ltb}
-use Rattle.std.proofs.Math.Option.{Option}
+use Rattle.std.specs.Prelude.{Option}
 use Rattle.octets.specs.Choice.{pick}
 use Rattle.message.specs.Message.{Message}
 use Rattle.message.specs.declared.Decoded.{Decoded}

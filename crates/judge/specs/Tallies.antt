@@ -1,6 +1,6 @@
 -- The tally (the paper's term): seen, kept, dropped and refused, 32 bits each.
 use Rattle.std.specs.Prelude.{ℕ, ◌+◌, ◌≡◌, Bool, true, false, eqb}
-use Rattle.std.proofs.Math.Option.{Option, some, none}
+use Rattle.std.specs.Prelude.{Option, Some, None}
 use Rattle.octets.specs.Choice.{pick}
 use Rattle.judge.specs.declared.Tally.{Tally}
 
@@ -17,7 +17,7 @@ pub data Full (t : Tally) : Type 0 where
 
 -- judging with a tally that is full; without one, never
 pub data FullTally : Option Tally → Type 0 where
-  full : {t : Tally} → Full t → FullTally (some t)
+  full : {t : Tally} → Full t → FullTally (Some t)
 
 abbrev pub tally : ℕ → ℕ → ℕ → ℕ → Tally
 tally s k d r = record { seen = s; kept = k; dropped = d; refused = r }
@@ -41,5 +41,5 @@ is_full t =
     (pick (eqb t.dropped full_count) true (eqb t.refused full_count)))
 
 abbrev pub is_full_tally : Option Tally → Bool
-is_full_tally none = false
-is_full_tally (some t) = is_full t
+is_full_tally None = false
+is_full_tally (Some t) = is_full t

@@ -1,8 +1,7 @@
 // Judging: a program over a record.
 #![tactic(auto)]
 
-ghost use Rattle.std.specs.Prelude.{◌≡◌, true, false, ◌+◌, ◌*◌, ◌≤◌, length};
-ghost use Rattle.std.proofs.Math.Option.{some, none};
+ghost use Rattle.std.specs.Prelude.{◌≡◌, true, false, ◌+◌, ◌*◌, ◌≤◌, length, Some, None};
 ghost use Rattle.message.specs.Decode.{message_at, decode_of};
 ghost use Rattle.program.specs.Records.{weight_limit};
 ghost use Rattle.program.specs.Spent.{one_step, together};
@@ -205,7 +204,7 @@ fn judge_valid(program: &[u8], bytes: &[u8], lines: &mut [u8]) -> Judged
 
 // Judges a record with a program.
 pub fn judge(program: &[u8], bytes: &[u8], lines: &mut [u8]) -> Judged
-    ensures { judging_of result lines.new none ≡ our_judge program.now bytes.now lines.old none }
+    ensures { judging_of result lines.new None ≡ our_judge program.now bytes.now lines.old None }
 {
     if !program::is_valid(program) {
         return Judged::Refused(Refusal::Program);
@@ -274,8 +273,8 @@ fn count(judged: Judged, tally: Tally) -> Tally
 
 // Judges a record with a program, and counts it.
 pub fn judge_with(program: &[u8], bytes: &[u8], lines: &mut [u8], tally: Tally) -> Counted
-    ensures { judging_of result.judged lines.new (some result.tally)
-        ≡ our_judge program.now bytes.now lines.old (some tally) }
+    ensures { judging_of result.judged lines.new (Some result.tally)
+        ≡ our_judge program.now bytes.now lines.old (Some tally) }
 {
     if !program::is_valid(program) {
         return Counted {
@@ -296,8 +295,8 @@ pub fn judge_with(program: &[u8], bytes: &[u8], lines: &mut [u8], tally: Tally) 
 
 // Judges a record with a program, and counts it in the tally that is lent.
 pub fn judge_counted(program: &[u8], bytes: &[u8], lines: &mut [u8], tally: &mut Tally) -> Judged
-    ensures { judging_of result lines.new (some tally.new)
-        ≡ our_judge program.now bytes.now lines.old (some tally.old) }
+    ensures { judging_of result lines.new (Some tally.new)
+        ≡ our_judge program.now bytes.now lines.old (Some tally.old) }
 {
     let counted = judge_with(program, bytes, lines, *tally);
     *tally = counted.tally;

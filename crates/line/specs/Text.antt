@@ -1,6 +1,6 @@
 -- Lists as text.
 use Rattle.std.specs.Prelude.{ℕ, List, [], ◌∷◌, ◌++◌, map}
-use Rattle.std.proofs.Math.Option.{Option, some, none}
+use Rattle.std.specs.Prelude.{Option, Some, None}
 use Rattle.octets.specs.Decimal.{decimal}
 use Rattle.network.specs.Networks.{Network}
 use Rattle.network.specs.Text.{network_text}
@@ -46,5 +46,5 @@ communities_text cs = separated space (map community_text cs)
 
 -- the field of what may be absent is empty then
 unfoldable pub optional : {A : Type 0} → (A → List ℕ) → Option A → List ℕ
-optional text none = []
-optional text (some x) = text x
+optional text None = []
+optional text (Some x) = text x

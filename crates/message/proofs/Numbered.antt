@@ -1,7 +1,7 @@
 -- What decoding answers tells the code's answer. Assumes nothing.
 use Prim.Native.Nat.{ℕ, ◌-◌}
 use mathlib.Core.Path.{◌≡◌, refl, sym, ap, ◌∙◌}
-use mathlib.Core.Option.{Option, some, none}
+use Rattle.std.specs.Prelude.{Option, Some, None}
 use lib.ListN.{get_or}
 use Rattle.message.specs.declared.Parts.{Parts}
 use Rattle.message.specs.declared.Refusal.{Refusal}
@@ -17,8 +17,8 @@ refusal_of n = get_or refusals (n - 11) Size
 
 -- the code's answer that has a number and parts or none
 abbrev decoded_of : ℕ → Option Parts → Decoded
-decoded_of n (some parts) = Read parts
-decoded_of n none = Refused (refusal_of n)
+decoded_of n (Some parts) = Read parts
+decoded_of n None = Refused (refusal_of n)
 
 decoded_back : (d : Decoded) → decoded_of (decoding_of d).number (decoding_of d).parts ≡ d
 decoded_back (Read parts) = refl

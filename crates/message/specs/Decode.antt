@@ -1,6 +1,6 @@
 -- What decoding a record answers, and what the answer's places and numbers stand for.
 use Rattle.std.specs.Prelude.{ℕ, zero, suc, ◌+◌, ◌-◌, Bool, true, false, not, List, length, get_or, drop, ltb, eqb}
-use Rattle.std.proofs.Math.Option.{Option, some, none}
+use Rattle.std.specs.Prelude.{Option, Some, None}
 use Rattle.octets.specs.Choice.{pick}
 use Rattle.octets.specs.Parts.{part_at}
 use Rattle.octets.specs.Rows.{whole, items}
@@ -147,8 +147,8 @@ pub record Decoding : Type 0 where
   pub parts : Option Parts
 
 abbrev pub decoding_of : Decoded → Decoding
-decoding_of (Read parts) = record { number = 0; parts = some parts }
-decoding_of (Refused why) = record { number = number_of why; parts = none }
+decoding_of (Read parts) = record { number = 0; parts = Some parts }
+decoding_of (Refused why) = record { number = number_of why; parts = None }
 
 abbrev pub our_decoding : List ℕ → Decoding
 our_decoding bytes = decoding_of (decode_of bytes)

@@ -3,7 +3,7 @@ use Prim.Native.Nat.{ℕ, zero, suc, ◌<◌}
 use native.Mathlib.Omega.{arith}
 use mathlib.Core.Path.{◌≡◌, refl, sym, ◌∙◌}
 use mathlib.Core.Bool.{Bool, true, false}
-use mathlib.Core.Option.{Option, none, some}
+use Rattle.std.specs.Prelude.{Option, None, Some}
 use mathlib.Core.List.{List, [], ◌∷◌}
 use lib.ListN.{length, get_or}
 use lib.Dec.{eqb}
@@ -17,8 +17,8 @@ use Rattle.names.specs.Tables.{Row, In, here, there, name_of, found}
 
 -- there is no answer
 abbrev pub missing : {A : Type 0} → Option A → Bool
-missing none = true
-missing (some a) = false
+missing None = true
+missing (Some a) = false
 
 module _ {A : Type 0} where
   -- no two rows have the same word
@@ -27,27 +27,27 @@ module _ {A : Type 0} where
   distinct (r ∷ rs) = pick (missing (found rs r.word)) (distinct rs) false
 
   -- what is found stands in the table
-  pub found_sound : (rows : List (Row A)) (w : List ℕ) {a : A} → found rows w ≡ some a → In rows w a
+  pub found_sound : (rows : List (Row A)) (w : List ℕ) {a : A} → found rows w ≡ Some a → In rows w a
   unfolding found
   found_sound [] w e = let z : ◌≡◌ {A = ℕ} 0 1 = cc in absurd (omega arith)
   found_sound (r ∷ rs) w {a} e = go (same w r.word) (same_true w r.word) (found_sound rs w) e
     where
-      go : (b : Bool) → (b ≡ true → w ≡ r.word) → (found rs w ≡ some a → In rs w a) → pick b (some r.value) (found rs w) ≡ some a → In (r ∷ rs) w a
+      go : (b : Bool) → (b ≡ true → w ≡ r.word) → (found rs w ≡ Some a → In rs w a) → pick b (Some r.value) (found rs w) ≡ Some a → In (r ∷ rs) w a
       go true f ih e = let z : r.value ≡ a = cc in rw (f refl, ← z) here
       go false f ih e = there (ih e)
 
   -- and where the words differ, what stands there is found
-  pub found_row : {rows : List (Row A)} {w : List ℕ} {a : A} → distinct rows ≡ true → In rows w a → found rows w ≡ some a
+  pub found_row : {rows : List (Row A)} {w : List ℕ} {a : A} → distinct rows ≡ true → In rows w a → found rows w ≡ Some a
   unfolding found distinct
   found_row t (here {r}) = rw (same_itself r.word)
   found_row t (there {r} {rows} {w} {a} x) =
       go (each (missing (found rows r.word)) (distinct rows) t) (λ u. found_row u x) (same w r.word) (same_true w r.word)
     where
-      go : (missing (found rows r.word) ≡ true) × (distinct rows ≡ true) → (distinct rows ≡ true → found rows w ≡ some a)
-          → (b : Bool) → (b ≡ true → w ≡ r.word) → pick b (some r.value) (found rows w) ≡ some a
+      go : (missing (found rows r.word) ≡ true) × (distinct rows ≡ true) → (distinct rows ≡ true → found rows w ≡ Some a)
+          → (b : Bool) → (b ≡ true → w ≡ r.word) → pick b (Some r.value) (found rows w) ≡ Some a
       go m ih false f = ih m.1
       go m ih true f =
-          let e : found rows r.word ≡ some a = rw (← f refl) (ih m.1) in
+          let e : found rows r.word ≡ Some a = rw (← f refl) (ih m.1) in
           never (rw e at m.0)
 
   -- what holds of each row holds of each word and its value
@@ -66,7 +66,7 @@ module _ {A : Type 0} where
 
   -- a word that was found the same as a row's, where the words differ
   pub row_found : (rows : List (Row A)) (d : Row A) → distinct rows ≡ true → (i : ℕ) (w : List ℕ) {b : Bool} → i < length rows → b ≡ same w (get_or rows i d).word → b ≡ true
-      → found rows w ≡ some (get_or rows i d).value
+      → found rows w ≡ Some (get_or rows i d).value
   row_found rows d u i w h p e = rw (same_true w (get_or rows i d).word (sym p ∙ e)) (found_row u (in_place rows d i h))
 
   -- rows that a word was found to differ from, up to those that are left
@@ -89,6 +89,6 @@ unfolding name_of
 named_each P v every_none q = q
 named_each P v {text = text} (every_more {a = r} {xs = rs} p ps) q = go (eqb r.value v) (eqb-true r.value v) (named_each P v ps q)
   where
-    go : (b : Bool) → (b ≡ true → r.value ≡ v) → P (otherwise (name_of rs v) text) → P (otherwise (pick b (some r.word) (name_of rs v)) text)
+    go : (b : Bool) → (b ≡ true → r.value ≡ v) → P (otherwise (name_of rs v) text) → P (otherwise (pick b (Some r.word) (name_of rs v)) text)
     go true f ih = p (f refl)
     go false f ih = ih

@@ -1,6 +1,6 @@
 -- The names of message types and of attributes, with their codes.
 use Rattle.std.specs.Prelude.{ℕ, List, [], ◌∷◌, eqb}
-use Rattle.std.proofs.Math.Option.{Option, none, some}
+use Rattle.std.specs.Prelude.{Option, None, Some}
 use Rattle.octets.specs.Choice.{pick}
 use Rattle.names.specs.Tables.{Row, row}
 
@@ -36,4 +36,4 @@ attribute_names =
 
 -- the code's answer for a name: no name of a type, an attribute or a community has 0
 abbrev pub named_code : ℕ → Option ℕ
-named_code r = pick (eqb r 0) none (some r)
+named_code r = pick (eqb r 0) None (Some r)

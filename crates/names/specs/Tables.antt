@@ -1,6 +1,6 @@
 -- Tables of words: each row a word and what it stands for.
 use Rattle.std.specs.Prelude.{ℕ, List, [], ◌∷◌, eqb}
-use Rattle.std.proofs.Math.Option.{Option, none, some}
+use Rattle.std.specs.Prelude.{Option, None, Some}
 use Rattle.octets.specs.Choice.{pick}
 use Rattle.octets.specs.Equal.{same}
 
@@ -20,12 +20,12 @@ pub data In {A : Type 0} : List (Row A) → List ℕ → A → Type 0 where
 
 -- the word of the first row with a value
 unfoldable pub name_of : List (Row ℕ) → ℕ → Option (List ℕ)
-name_of [] v = none
-name_of (r ∷ rs) v = pick (eqb r.value v) (some r.word) (name_of rs v)
+name_of [] v = None
+name_of (r ∷ rs) v = pick (eqb r.value v) (Some r.word) (name_of rs v)
 
 -- ---- what the code computes
 
 -- the value of the first row with a word
 unfoldable pub found : {A : Type 0} → List (Row A) → List ℕ → Option A
-found [] w = none
-found (r ∷ rs) w = pick (same w r.word) (some r.value) (found rs w)
+found [] w = None
+found (r ∷ rs) w = pick (same w r.word) (Some r.value) (found rs w)

@@ -8,17 +8,17 @@ use mathlib.Core.List.{List, [], ◌∷◌, ◌++◌}
 use lib.ListN.{length, get_or, drop}
 use lib.Seq.{drop-cons}
 use Rattle.octets.specs.Choice.{pick}
-use Rattle.octets.specs.Lists.{Every, every_none, every_more, Some, some_here, some_there, At, at_here, at_there, some_passes}
+use Rattle.octets.specs.Lists.{Every, every_none, every_more, SomeMember, some_here, some_there, At, at_here, at_there, some_passes}
 use Rattle.octets.proofs.Choices.{never, either, second}
 
 module _ {A : Type 0} {P : A → Type 0} where
   -- it stands at some place
-  pub some_at : {xs : List A} → Some P xs → (i : ℕ) × At P xs i
+  pub some_at : {xs : List A} → SomeMember P xs → (i : ℕ) × At P xs i
   some_at (some_here p) = (0, at_here p)
   some_at (some_there s) = let o = some_at s in (suc o.0, at_there o.1)
 
   -- what stands at a place is some member
-  pub at_some : {xs : List A} {i : ℕ} → At P xs i → Some P xs
+  pub at_some : {xs : List A} {i : ℕ} → At P xs i → SomeMember P xs
   at_some (at_here p) = some_here p
   at_some (at_there s) = some_there (at_some s)
 
@@ -28,7 +28,7 @@ module _ {A : Type 0} {P : A → Type 0} where
   at_within (at_there s) = suc-le-suc (at_within s)
 
   -- where each member is as Q says, some member is as both say
-  pub some_of_every : {Q : A → Type 0} {xs : List A} → Every Q xs → Some P xs → Some (λ (a : A). P a × Q a) xs
+  pub some_of_every : {Q : A → Type 0} {xs : List A} → Every Q xs → SomeMember P xs → SomeMember (λ (a : A). P a × Q a) xs
   some_of_every every_none s = elim s [ ]
   some_of_every (every_more q qs) (some_here p) = some_here (p, q)
   some_of_every (every_more q qs) (some_there s) = some_there (some_of_every qs s)
@@ -37,16 +37,16 @@ module _ {A : Type 0} {P : A → Type 0} where
 
 module _ {A : Type 0} {test : A → Bool} {P : A → Type 0} where
   -- where a member that passes is as P says, a list in which one was found has such a member
-  pub passes_sound : ((a : A) → test a ≡ true → P a) → {xs : List A} → some_passes test xs ≡ true → Some P xs
+  pub passes_sound : ((a : A) → test a ≡ true → P a) → {xs : List A} → some_passes test xs ≡ true → SomeMember P xs
   unfolding some_passes
   passes_sound f {xs = []} e = never e
   passes_sound f {xs = a ∷ xs} e = go (passes_sound f {xs = xs})
     where
-      go : (some_passes test xs ≡ true → Some P xs) → Some P (a ∷ xs)
+      go : (some_passes test xs ≡ true → SomeMember P xs) → SomeMember P (a ∷ xs)
       go ih = either (test a) (some_passes test xs) e (λ h. some_here (f a h)) (λ h. some_there (ih h))
 
   -- where a member that is as P says passes, none is missed
-  pub passes_complete : ((a : A) → P a → test a ≡ true) → {xs : List A} → Some P xs → some_passes test xs ≡ true
+  pub passes_complete : ((a : A) → P a → test a ≡ true) → {xs : List A} → SomeMember P xs → some_passes test xs ≡ true
   unfolding some_passes
   passes_complete f (some_here {a = a} p) = rw (f a p)
   passes_complete f (some_there {a = a} s) = second (test a) (passes_complete f s)

@@ -2,7 +2,7 @@
 use Prim.Native.Nat.{ℕ, ◌≤◌, ◌<◌}
 use mathlib.Core.Path.{◌≡◌}
 use mathlib.Core.Bool.{Bool, true, false}
-use mathlib.Core.Option.{none, some}
+use Rattle.std.specs.Prelude.{None, Some}
 use mathlib.Core.List.{List, ◌++◌}
 use lib.ListN.{length}
 use Rattle.octets.specs.Lists.{Every}
@@ -40,12 +40,12 @@ unfolding as_number
 as_sound l = holds_map (λ r g. record { text = g.text; joined = g.joined; says = plain g.says }) (number_sound as_limit l)
 
 -- and every one is read where what follows may stand behind it
-pub as_complete : {text rest : List ℕ} {n : ℕ} → AsNumber text n → BehindAs rest → as_number (text ++ rest) ≡ some (read n rest)
+pub as_complete : {text rest : List ℕ} {n : ℕ} → AsNumber text n → BehindAs rest → as_number (text ++ rest) ≡ Some (read n rest)
 unfolding as_number in_as_number
 as_complete (plain b) s = number_complete b s
 
 -- there is none where no digit stands
-pub as_none : {l : List ℕ} → Stops is_digit l → as_number l ≡ none
+pub as_none : {l : List ℕ} → Stops is_digit l → as_number l ≡ None
 unfolding as_number
 as_none s = number_none as_limit s
 
@@ -75,6 +75,6 @@ unfolding as_numeral
 as_numeral_sound l = wholly_sound (as_sound l)
 
 -- and every one is read
-pub as_numeral_complete : {l : List ℕ} {n : ℕ} → AsNumber l n → as_numeral l ≡ some n
+pub as_numeral_complete : {l : List ℕ} {n : ℕ} → AsNumber l n → as_numeral l ≡ Some n
 unfolding as_numeral
 as_numeral_complete {l} x = wholly_complete as_number l (as_complete x end)

@@ -3,7 +3,7 @@ use Prim.Native.Nat.{ℕ, ◌-◌}
 use native.Mathlib.Omega.{arith}
 use mathlib.Core.Path.{◌≡◌, refl, sym, ap, ◌∙◌}
 use mathlib.Core.Bool.{Bool, true, false}
-use mathlib.Core.Option.{Option, none, some}
+use Rattle.std.specs.Prelude.{Option, None, Some}
 use mathlib.Core.List.{List, [], ◌∷◌, map}
 use lib.ListN.{length, get_or, drop, drop_of_length-le, length-map}
 use Rattle.octets.specs.Choice.{pick, onward}
@@ -53,7 +53,7 @@ module _ {s : List ℕ} {n : Items} (is : PartedAt (listed_read Communities) s 0
   unfolding meaning communities_operand
   broken_none z = rw (drop_of_length-le asked {i = 0} (omega (arith, counted))) (go (blank_end s) (all_parted community_read s).rest)
     where
-      go : (b : Bool) (rest : List ℕ) → Broken ≡ meant_of (onward (pick b none (onward (ended rest []) one_or_more)) (λ cs. some (has_communities cs)))
+      go : (b : Bool) (rest : List ℕ) → Broken ≡ meant_of (onward (pick b None (onward (ended rest []) one_or_more)) (λ cs. Some (has_communities cs)))
       go true rest = refl
       go false [] = refl
       go false (r ∷ rs) = refl
@@ -61,14 +61,14 @@ module _ {s : List ℕ} {n : Items} (is : PartedAt (listed_read Communities) s 0
   -- with bytes left behind
   pub broken_left : (n.end ≡ length s → ⊥) → Broken ≡ meant_of (meaning communities_name s)
   unfolding meaning communities_operand
-  broken_left h = rw (← behind, ended_left s n.end asked (omega (arith, is.high)), alike {A = Option (List ℕ)} {z = none} (blank_end s) refl refl)
+  broken_left h = rw (← behind, ended_left s n.end asked (omega (arith, is.high)), alike {A = Option (List ℕ)} {z = None} (blank_end s) refl refl)
 
   -- communities
   pub communities_here : (n.count ≡ 0 → ⊥) → n.end ≡ length s → is_blank (get_or s (length s - 1) 0) ≡ false → Head (fields communities_kind 0 n.count 0 0) n.count ≡ meant_of (meaning communities_name s)
   unfolding meaning communities_operand blank_end head_of items_of head_fields
   communities_here f e b = rw (b, ← behind, ended_end s n.end asked (omega arith), counted) (go asked (λ z. f (counted ∙ z)))
     where
-      go : (cs : List ℕ) → (length cs ≡ 0 → ⊥) → Head (fields communities_kind 0 (length cs) 0 0) (length cs) ≡ meant_of (onward (one_or_more cs) (λ cs. some (has_communities cs)))
+      go : (cs : List ℕ) → (length cs ≡ 0 → ⊥) → Head (fields communities_kind 0 (length cs) 0 0) (length cs) ≡ meant_of (onward (one_or_more cs) (λ cs. Some (has_communities cs)))
       go [] f = absurd (f refl)
       go (c ∷ cs) f = rw (length-map (map Number cs) item, length-map cs Number)
 

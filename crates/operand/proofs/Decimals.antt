@@ -4,7 +4,7 @@ use native.Mathlib.Nat.{zero-add}
 use native.Mathlib.Omega.{arith}
 use mathlib.Core.Path.{◌≡◌, refl, ap, ◌∙◌}
 use mathlib.Core.Bool.{Bool, true, false}
-use mathlib.Core.Option.{none, some}
+use Rattle.std.specs.Prelude.{None, Some}
 use mathlib.Core.List.{List, [], ◌∷◌, ◌++◌, append_assoc}
 use lib.Dec.{leb, ltb}
 use lib.ListN.{length, length-append}
@@ -48,19 +48,19 @@ decimal_some (more {bs} d x m h e) = rw (e, length-append bs) (omega arith)
 -- ---- one step
 
 -- without a digit the number stands
-pub number_stop : (limit : ℕ) (fresh : Bool) (n : ℕ) {l : List ℕ} → Stops is_digit l → number_on limit fresh n l ≡ pick fresh none (some (read n l))
+pub number_stop : (limit : ℕ) (fresh : Bool) (n : ℕ) {l : List ℕ} → Stops is_digit l → number_on limit fresh n l ≡ pick fresh None (Some (read n l))
 unfolding number_on
 number_stop limit fresh n end = refl
 number_stop limit fresh n (other e) = rw e
 
 module _ (limit : ℕ) (fresh : Bool) (n b : ℕ) (bs : List ℕ) (e : is_digit b ≡ true) where
   -- a digit behind a leading zero is refused
-  pub digit_zero : pick fresh true (leb 1 n) ≡ false → number_on limit fresh n (b ∷ bs) ≡ none
+  pub digit_zero : pick fresh true (leb 1 n) ≡ false → number_on limit fresh n (b ∷ bs) ≡ None
   unfolding number_on
   digit_zero h = rw (e, h)
 
   -- so is one that leads to the limit
-  pub digit_over : limit ≤ 10 * n + (b - 48) → number_on limit fresh n (b ∷ bs) ≡ none
+  pub digit_over : limit ≤ 10 * n + (b - 48) → number_on limit fresh n (b ∷ bs) ≡ None
   unfolding number_on
   digit_over h = rw (e, le-ltb (10 * n + (b - 48)) limit h) (alike (pick fresh true (leb 1 n)) refl refl)
 
@@ -106,11 +106,11 @@ number_through {limit} (more {bs} {n = n} d p m l e) h ys =
     (number_through p (omega arith) ((48 + d) ∷ ys) ∙ (digit_taken limit false n (48 + d) ys (digit_is d l) (le-leb 1 n m) (omega arith) ∙ ap (λ (k : ℕ). number_on limit false k ys) (omega arith)))
 
 -- and every number before no digit is read
-pub number_complete : {limit n : ℕ} {text rest : List ℕ} → Below limit text n → Stops is_digit rest → number limit (text ++ rest) ≡ some (read n rest)
+pub number_complete : {limit n : ℕ} {text rest : List ℕ} → Below limit text n → Stops is_digit rest → number limit (text ++ rest) ≡ Some (read n rest)
 number_complete {limit} {n} {rest = rest} x s = number_through x.decimal x.below rest ∙ number_stop limit false n s
 
 -- where no digit stands, there is no number
-pub number_none : (limit : ℕ) {l : List ℕ} → Stops is_digit l → number limit l ≡ none
+pub number_none : (limit : ℕ) {l : List ℕ} → Stops is_digit l → number limit l ≡ None
 unfolding number
 number_none limit s = number_stop limit true 0 s
 
@@ -122,6 +122,6 @@ unfolding numeral
 numeral_sound limit l = wholly_sound (number_sound limit l)
 
 -- and every such number is read
-pub numeral_complete : {limit n : ℕ} {l : List ℕ} → Below limit l n → numeral limit l ≡ some n
+pub numeral_complete : {limit n : ℕ} {l : List ℕ} → Below limit l n → numeral limit l ≡ Some n
 unfolding numeral
 numeral_complete {limit} {n} {l} x = wholly_complete (number limit) l (number_complete x end)

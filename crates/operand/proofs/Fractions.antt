@@ -5,7 +5,7 @@ use native.Mathlib.Numerals.{add-one}
 use native.Mathlib.Omega.{arith}
 use mathlib.Core.Path.{◌≡◌}
 use mathlib.Core.Bool.{true, false}
-use mathlib.Core.Option.{none, some}
+use Rattle.std.specs.Prelude.{None, Some}
 use mathlib.Core.List.{List}
 use lib.Dec.{eqb, leb}
 use lib.ListN.{length, get_or, drop, length-drop}
@@ -38,7 +38,7 @@ module _ (s : List ℕ) (n i : ℕ) (h : i < length s) where
   unfolding any_digits
   digits_onward e = rw (drop-cons s i 0, e, add-one)
 
-  pub digits_other : is_digit (get_or s i 0) ≡ false → any_digits n (drop i s) ≡ none
+  pub digits_other : is_digit (get_or s i 0) ≡ false → any_digits n (drop i s) ≡ None
   unfolding any_digits
   digits_other e = rw (drop-cons s i 0, e)
 
@@ -47,7 +47,7 @@ pub fraction_at : (s : List ℕ) (at : ℕ) → at < length s
     → fraction_of (drop at s)
     ≡ pick (eqb (get_or s at 0) 46)
     (pick (leb 1 (length s - (at + 1)))
-    (pick (leb (length s - (at + 1)) fraction_digits) (onward (any_digits 0 (drop (at + 1) s)) (λ n. some (n * 10 ^ (fraction_digits - (length s - (at + 1)))))) none) none)
-    none
+    (pick (leb (length s - (at + 1)) fraction_digits) (onward (any_digits 0 (drop (at + 1) s)) (λ n. Some (n * 10 ^ (fraction_digits - (length s - (at + 1)))))) None) None)
+    None
 unfolding fraction_of
 fraction_at s at h = rw (drop-cons s at 0, add-one) (simp length-drop)

@@ -2,7 +2,7 @@
 use Prim.Native.Nat.{ℕ, suc}
 use mathlib.Core.Path.{◌≡◌, refl, sym, ap, ◌∙◌}
 use mathlib.Core.Bool.{Bool, true, false}
-use mathlib.Core.Option.{Option, some}
+use Rattle.std.specs.Prelude.{Option, Some}
 use mathlib.Core.List.{List, [], ◌∷◌, ◌++◌, append-nil}
 use lib.Dec.{eqb}
 use lib.ListN.{length, get_or, drop, take-append-drop}
@@ -40,9 +40,9 @@ pub wholly_sound : {A : Type 0} {R : List ℕ → A → Type 0} {l : List ℕ} {
 wholly_sound h = holds_onward h (λ r g. ended_sound g)
 
 -- and what is read with nothing behind it is what the whole says
-pub wholly_complete : {A : Type 0} (reader : List ℕ → Option (Read A)) (l : List ℕ) {x : A} → reader (l ++ []) ≡ some (read x []) → wholly (reader l) ≡ some x
+pub wholly_complete : {A : Type 0} (reader : List ℕ → Option (Read A)) (l : List ℕ) {x : A} → reader (l ++ []) ≡ Some (read x []) → wholly (reader l) ≡ Some x
 wholly_complete reader l {x} h =
-    let e : reader l ≡ some (read x []) = rw (append-nil l) at h in
+    let e : reader l ≡ Some (read x []) = rw (append-nil l) at h in
     rw e
 
 -- ---- one byte
@@ -54,7 +54,7 @@ after_sound b [] = nothing
 after_sound b (x ∷ xs) = holds_pick (eqb x b) (λ e. held (ap (λ (y : ℕ). y ∷ xs) (eqb-true x b e))) (λ e. nothing)
 
 -- and is taken where it stands
-pub after_complete : (b : ℕ) (r : List ℕ) → after b (b ∷ r) ≡ some r
+pub after_complete : (b : ℕ) (r : List ℕ) → after b (b ∷ r) ≡ Some r
 unfolding after
 after_complete b r = rw (eq-eqb b b refl)
 

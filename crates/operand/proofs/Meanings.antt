@@ -1,7 +1,7 @@
 -- What a test's operand means: decided, at most one test, and a possible one. Assumes nothing.
 use Prim.Native.Nat.{ℕ}
 use mathlib.Core.Path.{◌≡◌}
-use mathlib.Core.Option.{some}
+use Rattle.std.specs.Prelude.{Some}
 use mathlib.Core.List.{List}
 use Rattle.program.specs.Readings.{Test}
 use Rattle.operand.proofs.Holding.{AnswerHolds, held, holds_onward, holds_some, some_once}
@@ -28,11 +28,11 @@ meaning_holds communities_name v = holds_onward (communities_sound v) (λ cs x. 
 meaning_holds (network_name r) v = holds_onward (network_operand_sound v) (λ n x. held (network x))
 
 -- a test that was found is meant
-pub meaning_sound : (k : Name) (v : List ℕ) {x : Test} → meaning k v ≡ some x → StandsFor k v x
+pub meaning_sound : (k : Name) (v : List ℕ) {x : Test} → meaning k v ≡ Some x → StandsFor k v x
 meaning_sound k v e = holds_some (meaning_holds k v) e
 
 -- and none is missed
-pub meaning_complete : {k : Name} {v : List ℕ} {x : Test} → StandsFor k v x → meaning k v ≡ some x
+pub meaning_complete : {k : Name} {v : List ℕ} {x : Test} → StandsFor k v x → meaning k v ≡ Some x
 unfolding meaning
 meaning_complete (type x) = rw (coded_complete types_tell x)
 meaning_complete (attribute x) = rw (coded_complete attributes_tell x)

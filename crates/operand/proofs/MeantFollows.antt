@@ -2,7 +2,7 @@
 use Prim.Native.Nat.{ℕ}
 use native.Mathlib.Omega.{arith}
 use mathlib.Core.Path.{◌≡◌, refl}
-use mathlib.Core.Option.{Option, none, some}
+use Rattle.std.specs.Prelude.{Option, None, Some}
 use mathlib.Core.List.{List, []}
 use Rattle.octets.specs.Choice.{onward}
 use Rattle.program.specs.declared.Fields.{Fields}
@@ -14,11 +14,11 @@ use Rattle.operand.specs.Tests.{following_meant, meant_of}
 
 -- none where nothing is meant
 pub none_follow : (o : Option Test) → Broken ≡ meant_of o → following_meant o ≡ []
-none_follow none e = refl
-none_follow (some t) e = let z : ◌≡◌ {A = ℕ} 0 1 = cc in absurd (omega arith)
+none_follow None e = refl
+none_follow (Some t) e = let z : ◌≡◌ {A = ℕ} 0 1 = cc in absurd (omega arith)
 
 -- where a head is meant, those of the test that is made of what was read
-pub some_follow : {A : Type 0} (o : Option A) (t : A → Test) {f : Fields} {n : ℕ} {rs : List Record} → ((a : A) → o ≡ some a → following_of (t a) ≡ rs)
-    → Head f n ≡ meant_of (onward o (λ a. some (t a))) → following_meant (onward o (λ a. some (t a))) ≡ rs
-some_follow none t g e = let z : ◌≡◌ {A = ℕ} 0 1 = cc in absurd (omega arith)
-some_follow (some a) t g e = g a refl
+pub some_follow : {A : Type 0} (o : Option A) (t : A → Test) {f : Fields} {n : ℕ} {rs : List Record} → ((a : A) → o ≡ Some a → following_of (t a) ≡ rs)
+    → Head f n ≡ meant_of (onward o (λ a. Some (t a))) → following_meant (onward o (λ a. Some (t a))) ≡ rs
+some_follow None t g e = let z : ◌≡◌ {A = ℕ} 0 1 = cc in absurd (omega arith)
+some_follow (Some a) t g e = g a refl

@@ -2,7 +2,7 @@
 use Prim.Native.Nat.{ℕ}
 use mathlib.Core.Path.{◌≡◌, refl}
 use mathlib.Core.Bool.{Bool, true}
-use mathlib.Core.Option.{Option, none, some}
+use Rattle.std.specs.Prelude.{Option, None, Some}
 use mathlib.Core.List.{List}
 use Rattle.octets.specs.Lists.{every_passes}
 use Rattle.octets.proofs.Choices.{never}
@@ -24,9 +24,9 @@ abbrev pub unread : {A : Type 0} → (List ℕ → Option A) → List (Row ℕ) 
 unread reader names = every_passes (λ (r : Row ℕ). missing (reader r.word)) names
 
 -- so what is read is no name
-pub found_none : {A : Type 0} (reader : List ℕ → Option A) (names : List (Row ℕ)) (l : List ℕ) {a : A} → unread reader names ≡ true → reader l ≡ some a → found names l ≡ none
+pub found_none : {A : Type 0} (reader : List ℕ → Option A) (names : List (Row ℕ)) (l : List ℕ) {a : A} → unread reader names ≡ true → reader l ≡ Some a → found names l ≡ None
 found_none reader names l t e = go (found_holds names l)
   where
-    go : {o : Option ℕ} → AnswerHolds (In names l) o → o ≡ none
+    go : {o : Option ℕ} → AnswerHolds (In names l) o → o ≡ None
     go nothing = refl
     go (held x) = never (rw e at (row_passes (λ w c. missing (reader w)) t x))

@@ -2,7 +2,7 @@
 use Prim.Native.Nat.{ℕ, ◌≤◌}
 use native.Mathlib.Omega.{arith}
 use mathlib.Core.Path.{◌≡◌, refl, sym, ap, ◌∙◌}
-use mathlib.Core.Option.{none, some}
+use Rattle.std.specs.Prelude.{None, Some}
 use mathlib.Core.List.{List, ◌∷◌, ◌++◌, append_assoc}
 use lib.ListN.{length, drop}
 use Rattle.operand.specs.Decimals.{byte_limit, Below, is_digit}
@@ -27,7 +27,7 @@ unfolding part_read
 part_sound l = holds_onward (number_sound byte_limit l) (λ n g. holds_onward (after_sound 46 n.rest) (λ r e. held (record { text = g.text; joined = rw (← e) g.joined; says = g.says })))
 
 -- and every part is read
-part_complete : {text : List ℕ} {n : ℕ} → Below byte_limit text n → (rest : List ℕ) → part_read (text ++ (46 ∷ rest)) ≡ some (read n rest)
+part_complete : {text : List ℕ} {n : ℕ} → Below byte_limit text n → (rest : List ℕ) → part_read (text ++ (46 ∷ rest)) ≡ Some (read n rest)
 unfolding part_read is_digit
 part_complete {text} {n} x rest = rw (number_complete {rest = 46 ∷ rest} x (other refl), after_complete 46 rest)
 
@@ -60,7 +60,7 @@ address_sound l =
     })))))
 
 -- and every address before no digit is read
-pub address_complete : {text rest : List ℕ} {n : ℕ} → Address text n → Stops is_digit rest → address_read (text ++ rest) ≡ some (read n rest)
+pub address_complete : {text rest : List ℕ} {n : ℕ} → Address text n → Stops is_digit rest → address_read (text ++ rest) ≡ Some (read n rest)
 unfolding address_read
 address_complete {text} {rest} x s =
     let e : text ++ rest ≡ x.aText ++ (46 ∷ (x.bText ++ (46 ∷ (x.cText ++ (46 ∷ (x.dText ++ rest)))))) = rw x.joined (simp append_assoc) in
@@ -69,17 +69,17 @@ address_complete {text} {rest} x s =
 -- ---- by places
 
 -- the answer where none stands
-pub address_missing : (s : List ℕ) (at : ℕ) → address_read (drop at s) ≡ none → AddressAt s at Missing
+pub address_missing : (s : List ℕ) (at : ℕ) → address_read (drop at s) ≡ None → AddressAt s at Missing
 address_missing s at e = record { said = sym e; ends = λ a w q. let z : ◌≡◌ {A = ℕ} 0 1 = cc in absurd (omega arith) }
 
 -- and where one does
-pub address_found : (s : List ℕ) (at a e : ℕ) → address_read (drop at s) ≡ some (read a (drop e s)) → e ≤ length s → AddressAt s at (Found a e)
+pub address_found : (s : List ℕ) (at a e : ℕ) → address_read (drop at s) ≡ Some (read a (drop e s)) → e ≤ length s → AddressAt s at (Found a e)
 address_found s at a e h l = record { said = sym h; ends = λ b w q. let z : e ≡ w = cc in omega arith }
 
 -- what an answer says of the reader, by its variant
 module _ {s : List ℕ} {at : ℕ} {r : AddressRead} (x : AddressAt s at r) where
-  pub address_none : r ≡ Missing → address_read (drop at s) ≡ none
+  pub address_none : r ≡ Missing → address_read (drop at s) ≡ None
   address_none z = sym x.said ∙ ap (address_left s) z
 
-  pub address_some : {a e : ℕ} → r ≡ Found a e → address_read (drop at s) ≡ some (read a (drop e s))
+  pub address_some : {a e : ℕ} → r ≡ Found a e → address_read (drop at s) ≡ Some (read a (drop e s))
   address_some z = sym x.said ∙ ap (address_left s) z

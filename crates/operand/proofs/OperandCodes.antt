@@ -2,7 +2,7 @@
 use Prim.Native.Nat.{ℕ}
 use mathlib.Core.Path.{◌≡◌, refl}
 use mathlib.Core.Bool.{true}
-use mathlib.Core.Option.{some}
+use Rattle.std.specs.Prelude.{Some}
 use mathlib.Core.List.{List}
 use Rattle.octets.specs.Lists.{every_passes}
 use Rattle.operand.proofs.Holding.{AnswerHolds, holds_else, holds_map}
@@ -26,7 +26,7 @@ pub record Telling (names : List (Row ℕ)) : Type 0 where
   pub letters : unread (numeral byte_limit) names ≡ true
 
 -- every code is found
-pub coded_complete : {names : List (Row ℕ)} {l : List ℕ} {c : ℕ} → Telling names → CodeOperand names l c → coded names l ≡ some c
+pub coded_complete : {names : List (Row ℕ)} {l : List ℕ} {c : ℕ} → Telling names → CodeOperand names l c → coded names l ≡ Some c
 unfolding coded
 coded_complete t (by_name x) = rw (found_row t.differ x)
 coded_complete {names} {l} t (by_code b) = rw (found_none (numeral byte_limit) names l t.letters (numeral_complete b), numeral_complete b)

@@ -3,7 +3,7 @@ use Prim.Native.Nat.{ℕ, ◌+◌, ◌-◌, ◌≤◌}
 use native.Mathlib.Omega.{arith}
 use mathlib.Core.Path.{◌≡◌, refl, sym, ◌∙◌}
 use mathlib.Core.Bool.{true, false}
-use mathlib.Core.Option.{some}
+use Rattle.std.specs.Prelude.{Some}
 use mathlib.Core.List.{List, [], ◌∷◌, ◌++◌, append_assoc, append-nil}
 use lib.Dec.{leb}
 use lib.ListN.{length, get_or, length-append}
@@ -66,7 +66,7 @@ halves_sound l =
     held (record { text = g.text ++ (58 ∷ h.text); joined = g.joined ∙ rw (e, h.joined) (simp append_assoc); says = halves g.says h.says refl }))))
 
 -- and all halves before no digit are read
-halves_complete : {bs cs l rest : List ℕ} {n m : ℕ} → Below half_limit bs n → Below half_limit cs m → l ≡ bs ++ (58 ∷ cs) → Stops is_digit rest → halves_read (l ++ rest) ≡ some (read (community n m) rest)
+halves_complete : {bs cs l rest : List ℕ} {n m : ℕ} → Below half_limit bs n → Below half_limit cs m → l ≡ bs ++ (58 ∷ cs) → Stops is_digit rest → halves_read (l ++ rest) ≡ Some (read (community n m) rest)
 unfolding halves_read is_digit
 halves_complete {bs} {cs} {rest = rest} x y e s =
     rw (e, append_assoc bs, number_complete {rest = 58 ∷ (cs ++ rest)} x (other refl), after_complete 58 (cs ++ rest), number_complete y s)
@@ -84,10 +84,10 @@ community_sound l =
     (halves_sound l)
 
 -- and every one is read where no letter follows
-community_complete : {text rest : List ℕ} {c : ℕ} → CommunityText text c → BehindCommunity rest → community_read (text ++ rest) ≡ some (read c rest)
+community_complete : {text rest : List ℕ} {c : ℕ} → CommunityText text c → BehindCommunity rest → community_read (text ++ rest) ≡ Some (read c rest)
 unfolding community_read name_read
 community_complete {text} {rest} (halves {n = n} {m} x y e) s =
-    let h : halves_read text ≡ some (read (community n m) []) = rw (append-nil text) at (halves_complete x y e end) in
+    let h : halves_read text ≡ Some (read (community n m) []) = rw (append-nil text) at (halves_complete x y e end) in
     rw (cut_exact is_letter (text_letters (halves x y e)) s, found_none halves_read community_names text names_unread h) (halves_complete x y e (stops_narrower is_letter is_digit digit_letter s))
 community_complete (by_name x) s = rw (cut_exact is_letter (name_letters x) s, found_row communities_differ x)
 
@@ -142,16 +142,16 @@ communities_sound l = holds_pick (blank_end l) (λ e. nothing) (λ e. go e (all_
     go e [] (c ∷ cs) x = held (record { parted = whole e x.text x.behind x.joined x.blank x.says; some = omega arith })
 
 -- and none is missed
-pub communities_complete : {l cs : List ℕ} → CommunitiesOperand l cs → communities_operand l ≡ some cs
+pub communities_complete : {l cs : List ℕ} → CommunitiesOperand l cs → communities_operand l ≡ Some cs
 unfolding communities_operand
 communities_complete {l} {cs} x = go cs x.parted x.some
   where
-    go : (cs : List ℕ) → PartedText CommunityText l cs → 1 ≤ length cs → communities_operand l ≡ some cs
+    go : (cs : List ℕ) → PartedText CommunityText l cs → 1 ≤ length cs → communities_operand l ≡ Some cs
     go [] p h = absurd (omega arith)
     go (c ∷ cs) p h = rw (parted_end (λ m. blank_end m ≡ false) (λ front bs d t. community_end front t) p, parted_whole community_reads p end_closes)
 
 -- the communities of an operand are all that are read from its front on
-pub asked_in : (v : List ℕ) {cs : List ℕ} → communities_operand v ≡ some cs → (all_parted community_read v).value ≡ cs
+pub asked_in : (v : List ℕ) {cs : List ℕ} → communities_operand v ≡ Some cs → (all_parted community_read v).value ≡ cs
 unfolding communities_operand
 asked_in v h = holds_some (holds_pick (blank_end v) (λ e. nothing) (λ e. go (all_parted community_read v).rest (all_parted community_read v).value)) h
   where

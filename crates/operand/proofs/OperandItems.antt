@@ -2,7 +2,7 @@
 use Prim.Native.Nat.{ℕ, ◌≤◌}
 use native.Mathlib.Omega.{arith}
 use mathlib.Core.Path.{◌≡◌, refl}
-use mathlib.Core.Option.{some}
+use Rattle.std.specs.Prelude.{Some}
 use mathlib.Core.List.{List, [], ◌∷◌, ◌++◌}
 use lib.ListN.{length}
 use Rattle.aspath.specs.declared.Item.{Item}
@@ -25,7 +25,7 @@ item_sound l =
     (holds_onward (after_sound 33 l) (λ r e. holds_onward (as_sound r) (λ n g. held (record { text = 33 ∷ g.text; joined = rw (← g.joined) e; says = not_it g.says })))))
 
 -- and every item is read before what may stand behind an AS number
-item_complete : {text rest : List ℕ} {i : Item} → ItemText text i → BehindAs rest → item_read (text ++ rest) ≡ some (read i rest)
+item_complete : {text rest : List ℕ} {i : Item} → ItemText text i → BehindAs rest → item_read (text ++ rest) ≡ Some (read i rest)
 unfolding item_read after is_digit
 item_complete (a_number b) s = rw (as_complete b s)
 item_complete {rest = rest} (not_it {bs} b) s = rw (as_none {l = 33 ∷ bs ++ rest} (other refl), as_complete b s)

@@ -2,7 +2,7 @@
 use Prim.Native.Nat.{ℕ, ◌+◌}
 use mathlib.Core.Path.{◌≡◌, refl, ◌∙◌}
 use mathlib.Core.Bool.{false}
-use mathlib.Core.Option.{some}
+use Rattle.std.specs.Prelude.{Some}
 use mathlib.Core.List.{List, ◌∷◌, ◌++◌, append_assoc}
 use lib.Dec.{eqb}
 use lib.ListN.{get_or, drop}
@@ -24,7 +24,7 @@ network_sound l =
     held (record { address = a.value; len = n; address_text = g.text; len_text = r; joined = rw (← e) g.joined; address_is = g.says; len_is = b; value = refl }))))
 
 -- and every network is read
-network_complete : {l : List ℕ} {n : Network} → NetworkText l n → network_read l ≡ some n
+network_complete : {l : List ℕ} {n : Network} → NetworkText l n → network_read l ≡ Some n
 unfolding network_read is_digit
 network_complete x =
     rw (x.joined, x.value, address_complete {rest = 47 ∷ x.len_text} x.address_is (other refl), after_complete 47 x.len_text, numeral_complete x.len_is)
@@ -47,7 +47,7 @@ network_first {l} x b e z =
     rw j (decimal_first a.a_is.decimal _ b e z)
 
 -- and none is missed
-pub network_operand_complete : {l : List ℕ} {s : Side} {n : Network} → NetworkOperand l s n → network_operand l ≡ some (sided s n)
+pub network_operand_complete : {l : List ℕ} {s : Side} {n : Network} → NetworkOperand l s n → network_operand l ≡ Some (sided s n)
 unfolding network_operand is_digit
 network_operand_complete (plain t) = rw (network_first t 43 refl refl, network_first t 45 refl refl, network_complete t)
 network_operand_complete (plus t) = rw (network_complete t)

@@ -3,7 +3,7 @@ use Prim.Native.Nat.{ℕ}
 use native.Mathlib.Omega.{arith}
 use mathlib.Core.Path.{◌≡◌, refl, sym, ap, ◌∙◌}
 use mathlib.Core.Bool.{Bool, true, false}
-use mathlib.Core.Option.{some}
+use Rattle.std.specs.Prelude.{Some}
 use mathlib.Core.List.{List, [], ◌∷◌, ◌++◌, append_assoc, append-nil}
 use Rattle.octets.specs.Choice.{pick}
 use Rattle.octets.specs.Lists.{Every, every_none}
@@ -90,7 +90,7 @@ no_byte e = let z : ◌≡◌ {A = ℕ} 0 1 = cc in omega arith
 
 -- `$` and blanks end a pattern
 closed_complete : (s e : Bool) (is : List Item) {after' : List ℕ} → Every Blank after' → (s ≡ false → e ≡ false → is ≡ [] → ⊥)
-    → pattern_closed s is (optional 36 (left e after')) ≡ some (record { start = s; items = is; end = e })
+    → pattern_closed s is (optional 36 (left e after')) ≡ Some (record { start = s; items = is; end = e })
 closed_complete s true is {after'} a f =
     let z : cut is_blank after' ≡ read after' [] = rw (append-nil after') at (cut_exact is_blank (blanks_complete a) end) in
     rw (optional_yes 36 after', not_empty_of s true is f, z)
@@ -98,7 +98,7 @@ closed_complete s false is a f = rw (optional_not 36 {l = []} (λ r e. no_byte e
 
 -- from the items on a pattern is read
 opened_complete : (s e : Bool) (l : List ℕ) {m after' : List ℕ} {is : List Item} → Every Blank after' → (s ≡ false → e ≡ false → is ≡ [] → ⊥)
-    → pattern_opened l ≡ read s m → all_parted item_read (cut is_blank m).rest ≡ read is (left e after') → pattern_operand l ≡ some (record { start = s; items = is; end = e })
+    → pattern_opened l ≡ read s m → all_parted item_read (cut is_blank m).rest ≡ read is (left e after') → pattern_operand l ≡ Some (record { start = s; items = is; end = e })
 unfolding pattern_operand
 opened_complete s e l {is = is} a h o r = rw (o, r) (closed_complete s e is a h)
 
@@ -118,7 +118,7 @@ no_caret e m after' {is} h r z = go e (ap (λ (t : Read (List Item)). t.rest) (s
 -- a sign in front
 pattern_by : (s e : Bool) {before between text behind after' : List ℕ} {is : List Item} → Every Blank before → Every Blank between → PartedText ItemText text is → Every Blank behind → Every Blank after'
     → (s ≡ false → e ≡ false → is ≡ [] → ⊥)
-    → pattern_operand (before ++ (pick s (94 ∷ []) [] ++ (between ++ (text ++ (behind ++ (pick e (36 ∷ []) [] ++ after')))))) ≡ some (record { start = s; items = is; end = e })
+    → pattern_operand (before ++ (pick s (94 ∷ []) [] ++ (between ++ (text ++ (behind ++ (pick e (36 ∷ []) [] ++ after')))))) ≡ Some (record { start = s; items = is; end = e })
 unfolding is_blank
 pattern_by true e {between = between} {text} {behind} {after'} b c x k a n =
     let m : List ℕ = between ++ (text ++ (behind ++ (pick e (36 ∷ []) [] ++ after'))) in
@@ -130,11 +130,11 @@ pattern_by false e {before} {between} {text} {behind} {after'} {is} b c x k a n 
     opened_complete false e _ {m = m} a n (optional_not 94 (no_caret e m after' r)) (rw (cut_again is_blank (before ++ (between ++ w))) r)
 
 -- no pattern is missed
-pub pattern_complete : {l : List ℕ} {p : Pattern} → PatternOperand l p → pattern_operand l ≡ some p
+pub pattern_complete : {l : List ℕ} {p : Pattern} → PatternOperand l p → pattern_operand l ≡ Some p
 pattern_complete {l} {p} x = rw (← x.joined) at (pattern_by p.start p.end x.before_blank x.between_blank x.items_are x.behind_blank x.after_blank x.not_empty)
 
 -- the items of an operand that is a pattern are the pattern's
-pub items_in : (v : List ℕ) {p : Pattern} → pattern_operand v ≡ some p → (pattern_items v).value ≡ p.items
+pub items_in : (v : List ℕ) {p : Pattern} → pattern_operand v ≡ Some p → (pattern_items v).value ≡ p.items
 unfolding pattern_operand
 items_in v h =
     let e = optional 36 (pattern_items v).rest in

@@ -2,7 +2,7 @@
 use Prim.Native.Nat.{ℕ, ◌≤◌}
 use native.Mathlib.Omega.{arith}
 use mathlib.Core.Path.{◌≡◌, refl, ◌∙◌}
-use mathlib.Core.Option.{Option, none, some}
+use Rattle.std.specs.Prelude.{Option, None, Some}
 use mathlib.Core.Bool.{Bool, true}
 use mathlib.Core.List.{List, [], ◌∷◌, ◌++◌, append_assoc, append-nil}
 use lib.ListN.{length}
@@ -47,11 +47,11 @@ run_at p [] ys (every_more e es) = e
 run_at p (x ∷ xs) ys (every_more e es) = run_at p xs ys es
 
 -- digits alone are no address
-no_address : {l : List ℕ} → Run is_digit l → address_read l ≡ none
+no_address : {l : List ℕ} → Run is_digit l → address_read l ≡ None
 unfolding is_digit
 no_address {l} h = go (address_sound l)
   where
-    go : {o : Option (Read ℕ)} → AnswerHolds (Got Address l) o → o ≡ none
+    go : {o : Option (Read ℕ)} → AnswerHolds (Got Address l) o → o ≡ None
     go nothing = refl
     go (held {a} g) =
         let x = g.says in
@@ -59,15 +59,15 @@ no_address {l} h = go (address_sound l)
         never (run_at is_digit x.aText _ (rw j at h))
 
 -- no peer is missed
-pub peer_complete : {l : List ℕ} {p : Peer} → PeerOperand l p → peer_operand l ≡ some p
+pub peer_complete : {l : List ℕ} {p : Peer} → PeerOperand l p → peer_operand l ≡ Some p
 unfolding peer_operand behind_address
 peer_complete (as_only (plain b)) = rw (no_address (decimal_run b.decimal), as_numeral_complete (plain b))
 peer_complete (address_only {bs} {a} x) =
-    let e : address_read bs ≡ some (read a []) = rw (append-nil bs) at (address_complete x end) in
+    let e : address_read bs ≡ Some (read a []) = rw (append-nil bs) at (address_complete x end) in
     rw e
 peer_complete (address_and_as {bs} {gap} {cs} {l} {a} {n} x g h b e) = rw (e, address_complete x (blank_stops g h cs)) (go g h)
   where
-    go : {blanks : List ℕ} → Every Blank blanks → 1 ≤ length blanks → behind_address a (blanks ++ cs) ≡ some (by_both a n)
+    go : {blanks : List ℕ} → Every Blank blanks → 1 ≤ length blanks → behind_address a (blanks ++ cs) ≡ Some (by_both a n)
     go every_none h = absurd (omega arith)
     go (every_more {a = y} {xs = ys} p ps) h =
         let s = rw (append-nil cs) at (as_stops is_blank digit_no_blank b []) in

@@ -3,7 +3,7 @@ use Prim.Native.Nat.{ℕ, ◌+◌, ◌-◌, ◌*◌}
 use native.Mathlib.Omega.{arith}
 use mathlib.Core.Path.{◌≡◌, refl, ap, ◌∙◌}
 use mathlib.Core.Bool.{true, false}
-use mathlib.Core.Option.{Option, some}
+use Rattle.std.specs.Prelude.{Option, Some}
 use mathlib.Core.List.{List, [], ◌∷◌, ◌++◌}
 use lib.Dec.{eqb, leb}
 use lib.ListN.{length, get_or, drop}
@@ -58,7 +58,7 @@ digits_sound n (b ∷ bs) = holds_pick (is_digit b) (λ e. go e (digits_sound (1
         held (rw (digit_of b e).0 at x)
 
 -- and every number is read
-digits_complete : {n m : ℕ} {l : List ℕ} → Digits n l m → any_digits n l ≡ some m
+digits_complete : {n m : ℕ} {l : List ℕ} → Digits n l m → any_digits n l ≡ Some m
 unfolding any_digits
 digits_complete end = refl
 digits_complete (more {n} d h x) = let e : 48 + d - 48 ≡ d = omega arith in rw (digit_is d h, e) (digits_complete x)
@@ -72,7 +72,7 @@ fraction_sound (x ∷ bs) =
     holds_onward (digits_sound 0 bs) (λ n h. held (rw (eqb-true x 46 e) (fraction h (leb-true 1 (length bs) f) (leb-true (length bs) fraction_digits g))))) (λ g. nothing)) (λ f. nothing)) (λ e. nothing)
 
 -- and every fraction is read
-fraction_complete : {l : List ℕ} {n : ℕ} → FractionText l n → fraction_of l ≡ some n
+fraction_complete : {l : List ℕ} {n : ℕ} → FractionText l n → fraction_of l ≡ Some n
 unfolding fraction_of
 fraction_complete whole = refl
 fraction_complete (fraction {bs} h f g) = rw (le-leb 1 (length bs) f, le-leb (length bs) fraction_digits g, digits_complete h)
@@ -94,7 +94,7 @@ fraction_stops whole = end
 fraction_stops (fraction h f g) = other refl
 
 -- no time is missed
-pub time_complete : {l : List ℕ} {c : Comparison} {s m : ℕ} → TimeOperand l c s m → time_operand l ≡ some (moment c s m)
+pub time_complete : {l : List ℕ} {c : Comparison} {s m : ℕ} → TimeOperand l c s m → time_operand l ≡ Some (moment c s m)
 unfolding time_operand
 time_complete x =
     rw (

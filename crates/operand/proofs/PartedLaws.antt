@@ -3,7 +3,7 @@ use Prim.Native.Nat.{ℕ, zero, suc, ◌+◌, ◌≤◌, ◌<◌}
 use native.Mathlib.Omega.{arith}
 use mathlib.Core.Path.{◌≡◌, refl, sym, ap, ◌∙◌}
 use mathlib.Core.Bool.{Bool}
-use mathlib.Core.Option.{Option, none, some}
+use Rattle.std.specs.Prelude.{Option, None, Some}
 use mathlib.Core.List.{List, [], ◌∷◌, ◌++◌, append_assoc, append-nil}
 use lib.ListN.{length, length-append}
 use Rattle.octets.specs.Lists.{Every, every_none, every_more}
@@ -19,7 +19,7 @@ use Rattle.operand.proofs.Blanks.{blanks_sound, blanks_complete}
 -- what the reader of one satisfies: what it reads is written so, and what is written so is read before all that may stand behind one
 pub record ReadsOne {A : Type 0} (R : List ℕ → A → Type 0) (one : List ℕ → Option (Read A)) (Behind : List ℕ → Type 0) : Type 0 where
   pub sound : (l : List ℕ) → AnswerHolds (Got R l) (one l)
-  pub complete : {text rest : List ℕ} {x : A} → R text x → Behind rest → one (text ++ rest) ≡ some (read x rest)
+  pub complete : {text rest : List ℕ} {x : A} → R text x → Behind rest → one (text ++ rest) ≡ Some (read x rest)
   -- one has a byte or more, and starts with no blank
   pub some_byte : {text : List ℕ} {x : A} → R text x → 1 ≤ length text
   pub front : {text : List ℕ} {x : A} → R text x → (rest : List ℕ) → Stops is_blank (text ++ rest)
@@ -30,7 +30,7 @@ pub record ReadsOne {A : Type 0} (R : List ℕ → A → Type 0) (one : List ℕ
 pub record Closes {A : Type 0} (one : List ℕ → Option (Read A)) (Behind : List ℕ → Type 0) (l : List ℕ) : Type 0 where
   pub no_blank : Stops is_blank l
   pub behind : Behind l
-  pub no_more : one l ≡ none
+  pub no_more : one l ≡ None
 
 -- they and blanks stand at the front
 pub record Listed {A : Type 0} (R : List ℕ → A → Type 0) (l : List ℕ) (r : Read (List A)) : Type 0 where

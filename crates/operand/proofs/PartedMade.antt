@@ -1,7 +1,7 @@
 -- What is parted by blanks, with something made of each: it is read as what it is made of. Assumes nothing.
 use Prim.Native.Nat.{ℕ, zero, suc, ◌≤◌}
 use mathlib.Core.Path.{◌≡◌, refl}
-use mathlib.Core.Option.{Option, none, some}
+use Rattle.std.specs.Prelude.{Option, None, Some}
 use mathlib.Core.List.{List, [], ◌∷◌, ◌++◌, map}
 use lib.ListN.{length}
 use Rattle.octets.specs.Choice.{onward}
@@ -19,7 +19,7 @@ pub data Made {A B : Type 0} (f : A → B) (R : List ℕ → A → Type 0) : Lis
 module _ {A B : Type 0} (f : A → B) where
   -- what was read with something made of it
   abbrev pub makes : Option (Read A) → Option (Read B)
-  makes o = onward o (λ r. some (read (f r.value) r.rest))
+  makes o = onward o (λ r. Some (read (f r.value) r.rest))
 
   -- the same of many
   abbrev pub makes_all : Read (List A) → Read (List B)
@@ -29,7 +29,7 @@ module _ {A B : Type 0} (f : A → B) where
     made_sound : (l : List ℕ) → AnswerHolds (Got (Made f R) l) (makes (one l))
     made_sound l = holds_onward (k.sound l) (λ r g. held (record { text = g.text; joined = g.joined; says = made g.says }))
 
-    made_complete : {text rest : List ℕ} {x : B} → Made f R text x → Behind rest → makes (one (text ++ rest)) ≡ some (read x rest)
+    made_complete : {text rest : List ℕ} {x : B} → Made f R text x → Behind rest → makes (one (text ++ rest)) ≡ Some (read x rest)
     made_complete (made t) b = rw (k.complete t b)
 
     made_some : {text : List ℕ} {x : B} → Made f R text x → 1 ≤ length text
@@ -55,5 +55,5 @@ module _ {A B : Type 0} (f : A → B) where
 
       first : ((m : List ℕ) → parted_read (λ m. makes (one m)) n m ≡ makes_all (parted_read one n m)) → (o : Option (Read A))
           → from_first (parted_read (λ m. makes (one m)) n) l (makes o) ≡ makes_all (from_first (parted_read one n) l o)
-      first ih none = refl
-      first ih (some r) = next ih r.value (cut is_blank r.rest).value (cut is_blank r.rest).rest
+      first ih None = refl
+      first ih (Some r) = next ih r.value (cut is_blank r.rest).value (cut is_blank r.rest).rest

@@ -3,7 +3,7 @@ use Prim.Native.Nat.{ℕ, suc, ◌+◌, ◌≤◌, ◌<◌}
 use native.Mathlib.Nat.{add-zero}
 use native.Mathlib.Omega.{arith}
 use mathlib.Core.Path.{◌≡◌, refl, ◌∙◌}
-use mathlib.Core.Option.{Option, none, some}
+use Rattle.std.specs.Prelude.{Option, None, Some}
 use mathlib.Core.List.{List, [], ◌∷◌, map}
 use lib.ListN.{length, drop, length-drop}
 use Rattle.octets.specs.Writes.{last_place, Written}
@@ -23,22 +23,22 @@ use Rattle.operand.proofs.PartedLaws.{ReadsOne, cut_shorter, one_shorter, parted
 
 -- not one stands at a place
 pub record NoneAt {A : Type 0} (one : List ℕ → Option (Read A)) (s : List ℕ) (at : ℕ) : Type 0 where
-  pub is : one (drop at s) ≡ none
+  pub is : one (drop at s) ≡ None
 
 -- one stands at a place and ends at a later one
 pub record OneAt {A : Type 0} (one : List ℕ → Option (Read A)) (s : List ℕ) (at : ℕ) (x : A) (end : ℕ) : Type 0 where
-  pub is : one (drop at s) ≡ some (read x (drop end s))
+  pub is : one (drop at s) ≡ Some (read x (drop end s))
   pub onward : at < end
   pub within : end ≤ length s
 
 module _ {A : Type 0} {R : List ℕ → A → Type 0} {one : List ℕ → Option (Read A)} {Behind : List ℕ → Type 0} (k : ReadsOne R one Behind) where
   -- none where not one stands
-  parted_none : (l : List ℕ) → one l ≡ none → all_parted one l ≡ read [] l
+  parted_none : (l : List ℕ) → one l ≡ None → all_parted one l ≡ read [] l
   unfolding parted_read
   parted_none l e = parted_fuel k (length l) (suc (length l)) l (omega arith) (omega arith) ∙ rw e
 
   -- one, and those behind it
-  parted_some : (l : List ℕ) {r : Read A} → one l ≡ some r → all_parted one l ≡ followed (all_parted one) r.value (cut is_blank r.rest).value (cut is_blank r.rest).rest
+  parted_some : (l : List ℕ) {r : Read A} → one l ≡ Some r → all_parted one l ≡ followed (all_parted one) r.value (cut is_blank r.rest).value (cut is_blank r.rest).rest
   unfolding parted_read
   parted_some l {r} e =
       parted_fuel k (length l) (suc (length l)) l (omega arith) (omega arith)

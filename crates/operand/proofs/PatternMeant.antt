@@ -3,7 +3,7 @@ use Prim.Native.Nat.{ℕ, ◌+◌, ◌-◌, ◌*◌}
 use native.Mathlib.Omega.{arith}
 use mathlib.Core.Path.{◌≡◌, refl, sym, ap, ◌∙◌}
 use mathlib.Core.Bool.{Bool, true, false}
-use mathlib.Core.Option.{none}
+use Rattle.std.specs.Prelude.{None}
 use mathlib.Core.List.{List, [], ◌∷◌, map}
 use lib.ListN.{length, drop, length-drop, drop_of_length-le, length-map}
 use Rattle.octets.specs.Choice.{pick}
@@ -53,7 +53,7 @@ some_found false false [] n = absurd (n refl)
 some_found false false (i ∷ is) n = refl
 
 -- bytes are left
-left_over : (l : List ℕ) (p : Pattern) → (length l ≡ 0 → ⊥) → ended l p ≡ none
+left_over : (l : List ℕ) (p : Pattern) → (length l ≡ 0 → ⊥) → ended l p ≡ None
 left_over [] p n = absurd (n refl)
 left_over (b ∷ bs) p n = refl
 
@@ -79,7 +79,7 @@ module _ {s : List ℕ} {start caret first : ℕ} (a : start ≡ run_end is_blan
     found = (all_parted item_read (drop first s)).value
 
     -- an operand by the places of its parts
-    by_places : pattern_operand s ≡ pick (has_part caret_stands found dollar_stands) (ended (drop last s) (record { start = caret_stands; items = found; end = dollar_stands })) none
+    by_places : pattern_operand s ≡ pick (has_part caret_stands found dollar_stands) (ended (drop last s) (record { start = caret_stands; items = found; end = dollar_stands })) None
     unfolding pattern_operand
     by_places = rw (listed_at, ← is.left, ← d.left, ← blanks_left s dollar e, ← blanks_left s 0 a)
 

@@ -3,7 +3,7 @@ use Prim.Native.Nat.{ℕ, ◌+◌, ◌≤◌, ◌<◌}
 use native.Mathlib.Nat.{add-zero}
 use native.Mathlib.Omega.{arith}
 use mathlib.Core.Path.{◌≡◌, sym, ap, ◌∙◌}
-use mathlib.Core.Option.{Option, none, some}
+use Rattle.std.specs.Prelude.{Option, None, Some}
 use mathlib.Core.List.{List}
 use lib.ListN.{length, get_or, drop}
 use Rattle.aspath.specs.declared.Item.{Item}
@@ -24,7 +24,7 @@ use Rattle.operand.specs.Listed.{item_left, ItemAt}
 -- ---- one byte at a place
 
 -- where a byte doesn't stand, its place is where it would
-pub optional_missing : (b : ℕ) (s : List ℕ) (at : ℕ) → at ≤ length s → after b (drop at s) ≡ none → OptionalEnd b s at at
+pub optional_missing : (b : ℕ) (s : List ℕ) (at : ℕ) → at ≤ length s → after b (drop at s) ≡ None → OptionalEnd b s at at
 unfolding optional
 optional_missing b s at h e = record { left = rw e; place = rw e (sym (add-zero at)); high = h }
 
@@ -37,11 +37,11 @@ optional_here b s at h e = record { left = rw (after_here s at b h e); place = r
 
 module _ {one : List ℕ → Option (Read Item)} {s : List ℕ} {at : ℕ} where
   -- none stands at a place
-  pub none_at : one (drop at s) ≡ none → ItemAt one s at Missing
+  pub none_at : one (drop at s) ≡ None → ItemAt one s at Missing
   none_at e = record { said = sym e; ends = λ i e h. let z : ◌≡◌ {A = ℕ} 0 1 = cc in absurd (omega arith) }
 
   -- one stands there
-  pub one_at : {e : ℕ} {i : Item} → one (drop at s) ≡ some (read i (drop e s)) → at < e → e ≤ length s → ItemAt one s at (Found i e)
+  pub one_at : {e : ℕ} {i : Item} → one (drop at s) ≡ Some (read i (drop e s)) → at < e → e ≤ length s → ItemAt one s at (Found i e)
   one_at {e} h l u = record { said = sym h; ends = λ j f z. let w : e ≡ f = cc in (omega arith, omega arith) }
 
 module _ {s : List ℕ} {at : ℕ} {n : Numbers} (x : ReadAt as_number s at as_limit n) where

@@ -4,7 +4,7 @@ use native.Mathlib.Numerals.{add-one}
 use native.Mathlib.Omega.{arith}
 use mathlib.Core.Path.{◌≡◌, refl}
 use mathlib.Core.Bool.{Bool, true, false}
-use mathlib.Core.Option.{none, some}
+use Rattle.std.specs.Prelude.{None, Some}
 use mathlib.Core.List.{List}
 use lib.Dec.{ltb}
 use lib.ListN.{length, get_or, drop, drop_of_length-le, get_or-eq_default}
@@ -23,26 +23,26 @@ module _ (s : List ℕ) (at : ℕ) where
   stops_end p h = rw (drop_of_length-le s h) end
 
   -- what stands behind a byte
-  pub after_here : (b : ℕ) → at < length s → get_or s at 0 ≡ b → after b (drop at s) ≡ some (drop (at + 1) s)
+  pub after_here : (b : ℕ) → at < length s → get_or s at 0 ≡ b → after b (drop at s) ≡ Some (drop (at + 1) s)
   unfolding after
   after_here b h e = rw (drop-cons s at 0, eq-eqb (get_or s at 0) b e, add-one)
 
   -- nothing behind another byte
-  pub after_other : (b : ℕ) → at < length s → (get_or s at 0 ≡ b → ⊥) → after b (drop at s) ≡ none
+  pub after_other : (b : ℕ) → at < length s → (get_or s at 0 ≡ b → ⊥) → after b (drop at s) ≡ None
   unfolding after
   after_other b h e = rw (drop-cons s at 0, ne_eqb (get_or s at 0) b e)
 
   -- nor past the end
-  pub after_end : (b : ℕ) → length s ≤ at → after b (drop at s) ≡ none
+  pub after_end : (b : ℕ) → length s ≤ at → after b (drop at s) ≡ None
   unfolding after
   after_end b h = rw (drop_of_length-le s h)
 
   -- nothing is left
-  pub ended_end : {A : Type 0} (a : A) → length s ≤ at → ended (drop at s) a ≡ some a
+  pub ended_end : {A : Type 0} (a : A) → length s ≤ at → ended (drop at s) a ≡ Some a
   ended_end a h = rw (drop_of_length-le s h)
 
   -- something is
-  pub ended_left : {A : Type 0} (a : A) → at < length s → ended (drop at s) a ≡ none
+  pub ended_left : {A : Type 0} (a : A) → at < length s → ended (drop at s) a ≡ None
   ended_left a h = rw (drop-cons s at 0)
 
 -- a byte that is not 0 stands before the end

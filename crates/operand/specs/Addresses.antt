@@ -1,6 +1,6 @@
 -- Addresses and networks: the operands of `-exact`, `-supernet`, `-subnet`, `-related`.
 use Rattle.std.specs.Prelude.{ℕ, ◌+◌, ◌*◌, ◌≤◌, ◌≡◌, List, ◌∷◌, ◌++◌, eqb, length, get_or, drop}
-use Rattle.std.proofs.Math.Option.{Option, none, some}
+use Rattle.std.specs.Prelude.{Option, None, Some}
 use Rattle.octets.specs.Choice.{pick, onward}
 use Rattle.network.specs.Networks.{address_bits, Network, masked}
 use Rattle.program.specs.Readings.{Side, either_side, announced, withdrawn}
@@ -47,19 +47,19 @@ pub data NetworkOperand : List ℕ → Side → Network → Type 0 where
 
 -- the part at the front, and what is left behind its dot
 unfoldable pub part_read : List ℕ → Option (Read ℕ)
-part_read l = onward (number byte_limit l) (λ n. onward (after 46 n.rest) (λ r. some (read n.value r)))
+part_read l = onward (number byte_limit l) (λ n. onward (after 46 n.rest) (λ r. Some (read n.value r)))
 
 -- the address at the front
 unfoldable pub address_read : List ℕ → Option (Read ℕ)
 address_read l =
     onward (part_read l) (λ a. onward (part_read a.rest) (λ b. onward (part_read b.rest) (λ c. onward (number byte_limit c.rest) (λ d.
-    some (read (((a.value * 256 + b.value) * 256 + c.value) * 256 + d.value) d.rest)))))
+    Some (read (((a.value * 256 + b.value) * 256 + c.value) * 256 + d.value) d.rest)))))
 
 -- the network that these bytes write
 unfoldable pub network_read : List ℕ → Option Network
 network_read l =
     onward (address_read l) (λ a. onward (after 47 a.rest) (λ r. onward (numeral (address_bits + 1) r) (λ n.
-    some (masked address_bits a.value n))))
+    Some (masked address_bits a.value n))))
 
 -- a network, and the side that it is asked of
 pub record Sided : Type 0 where
@@ -72,7 +72,7 @@ sided s n = record { side = s; network = n }
 
 -- the network that these bytes write, on a side
 abbrev side_of : Side → List ℕ → Option Sided
-side_of s l = onward (network_read l) (λ n. some (sided s n))
+side_of s l = onward (network_read l) (λ n. Some (sided s n))
 
 -- the side by the first byte
 unfoldable pub network_operand : List ℕ → Option Sided
@@ -84,8 +84,8 @@ network_operand l =
 
 -- the address, and what is left where it ends
 abbrev pub address_left : List ℕ → AddressRead → Option (Read ℕ)
-address_left s (Found a e) = some (read a (drop e s))
-address_left s Missing = none
+address_left s (Found a e) = Some (read a (drop e s))
+address_left s Missing = None
 
 -- the address at a place
 pub record AddressAt (s : List ℕ) (at : ℕ) (r : AddressRead) : Type 0 where

@@ -1,6 +1,6 @@
 -- `-communities` (request 1): one or more communities parted by blanks, each `N:M` or a name. No blank stands at the ends.
 use Rattle.std.specs.Prelude.{ℕ, ◌-◌, ◌≤◌, ◌≡◌, Bool, List, [], ◌∷◌, ◌++◌, length, get_or}
-use Rattle.std.proofs.Math.Option.{Option, none, some}
+use Rattle.std.specs.Prelude.{Option, None, Some}
 use Rattle.octets.specs.Choice.{pick, or_else, onward}
 use Rattle.names.specs.Tables.{In, found}
 use Rattle.communities.specs.Communities.{half_limit, community}
@@ -26,11 +26,11 @@ pub record CommunitiesOperand (bs cs : List ℕ) : Type 0 where
 unfoldable pub halves_read : List ℕ → Option (Read ℕ)
 halves_read l =
     onward (number half_limit l) (λ n. onward (after 58 n.rest) (λ r. onward (number half_limit r) (λ m.
-    some (read (community n.value m.value) m.rest))))
+    Some (read (community n.value m.value) m.rest))))
 
 -- the name at the front: letters up to the first byte that is none
 unfoldable pub name_read : List ℕ → Option (Read ℕ)
-name_read l = onward (found community_names (cut is_letter l).value) (λ c. some (read c (cut is_letter l).rest))
+name_read l = onward (found community_names (cut is_letter l).value) (λ c. Some (read c (cut is_letter l).rest))
 
 -- the community at the front
 unfoldable pub community_read : List ℕ → Option (Read ℕ)
@@ -42,11 +42,11 @@ blank_end l = is_blank (get_or l (length l - 1) 0)
 
 -- one or more
 abbrev pub one_or_more : List ℕ → Option (List ℕ)
-one_or_more [] = none
-one_or_more (c ∷ cs) = some (c ∷ cs)
+one_or_more [] = None
+one_or_more (c ∷ cs) = Some (c ∷ cs)
 
 -- the communities that these bytes write
 unfoldable pub communities_operand : List ℕ → Option (List ℕ)
 communities_operand l =
-    pick (blank_end l) none
+    pick (blank_end l) None
     (onward (ended (all_parted community_read l).rest (all_parted community_read l).value) one_or_more)

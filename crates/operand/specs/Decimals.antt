@@ -1,6 +1,6 @@
 -- Numbers in decimal without leading zeros.
 use Rattle.std.specs.Prelude.{ℕ, ◌+◌, ◌-◌, ◌*◌, ◌^◌, ◌≤◌, ◌<◌, ◌≡◌, Bool, true, false, List, [], ◌∷◌, leb, ltb, length, drop}
-use Rattle.std.proofs.Math.Option.{Option, none, some}
+use Rattle.std.specs.Prelude.{Option, None, Some}
 use Rattle.octets.specs.Choice.{pick}
 use Rattle.octets.specs.Decimal.{Decimal}
 use Rattle.operand.specs.Fronts.{Read, read, wholly}
@@ -33,11 +33,11 @@ is_digit b = pick (leb 48 b) (leb b 57) false
 
 -- behind digits that say n, or none yet where fresh: none at a digit behind a leading zero, none from the limit on
 unfoldable pub number_on : ℕ → Bool → ℕ → List ℕ → Option (Read ℕ)
-number_on limit fresh n [] = pick fresh none (some (read n []))
+number_on limit fresh n [] = pick fresh None (Some (read n []))
 number_on limit fresh n (b ∷ bs) =
     pick (is_digit b)
-    (pick (pick fresh true (leb 1 n)) (pick (ltb (10 * n + (b - 48)) limit) (number_on limit false (10 * n + (b - 48)) bs) none) none)
-    (pick fresh none (some (read n (b ∷ bs))))
+    (pick (pick fresh true (leb 1 n)) (pick (ltb (10 * n + (b - 48)) limit) (number_on limit false (10 * n + (b - 48)) bs) None) None)
+    (pick fresh None (Some (read n (b ∷ bs))))
 
 -- the number at the front
 unfoldable pub number : ℕ → List ℕ → Option (Read ℕ)
@@ -49,13 +49,13 @@ numeral limit l = wholly (number limit l)
 
 -- what an answer of the code says: the number, and what is left where it ends
 abbrev pub left_at : List ℕ → Number → Option (Read ℕ)
-left_at s (read_to v e) = some (read v (drop e s))
-left_at s missing = none
+left_at s (read_to v e) = Some (read v (drop e s))
+left_at s missing = None
 
 -- the number alone
 abbrev pub value_of : Number → Option ℕ
-value_of (read_to v e) = some v
-value_of missing = none
+value_of (read_to v e) = Some v
+value_of missing = None
 
 -- the answer of a reader at a place, below a limit
 pub record ReadAt (reader : List ℕ → Option (Read ℕ)) (s : List ℕ) (at limit : ℕ) (r : Number) : Type 0 where

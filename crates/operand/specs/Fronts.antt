@@ -1,6 +1,6 @@
 -- Reading from the front of bytes, as the code goes: what was read, and what is left behind it.
 use Rattle.std.specs.Prelude.{ℕ, Bool, true, false, List, [], ◌∷◌, eqb, take, drop}
-use Rattle.std.proofs.Math.Option.{Option, none, some}
+use Rattle.std.specs.Prelude.{Option, None, Some}
 use Rattle.octets.specs.Choice.{pick, onward}
 use Rattle.token.specs.Next.{run}
 
@@ -15,8 +15,8 @@ read a r = record { value = a; rest = r }
 
 -- what was read, if nothing is left
 abbrev pub ended : {A : Type 0} → List ℕ → A → Option A
-ended [] a = some a
-ended (b ∷ bs) a = none
+ended [] a = Some a
+ended (b ∷ bs) a = None
 
 -- the same of an answer
 abbrev pub wholly : {A : Type 0} → Option (Read A) → Option A
@@ -24,13 +24,13 @@ wholly o = onward o (λ r. ended r.rest r.value)
 
 -- what is left behind the byte b
 unfoldable pub after : ℕ → List ℕ → Option (List ℕ)
-after b [] = none
-after b (x ∷ xs) = pick (eqb x b) (some xs) none
+after b [] = None
+after b (x ∷ xs) = pick (eqb x b) (Some xs) None
 
 -- whether something was taken, and what is left
 abbrev pub chosen : List ℕ → Option (List ℕ) → Read Bool
-chosen l none = read false l
-chosen l (some r) = read true r
+chosen l None = read false l
+chosen l (Some r) = read true r
 
 -- whether the byte b stands at the front, and what is left behind it
 unfoldable pub optional : ℕ → List ℕ → Read Bool

@@ -1,6 +1,6 @@
 -- What is parted by blanks, whatever one of it is: R says how one is written.
 use Rattle.std.specs.Prelude.{ℕ, zero, suc, ◌≤◌, ◌≡◌, List, [], ◌∷◌, ◌++◌, length, drop}
-use Rattle.std.proofs.Math.Option.{Option, none, some}
+use Rattle.std.specs.Prelude.{Option, None, Some}
 use Rattle.octets.specs.Lists.{Every}
 use Rattle.token.specs.Texts.{Blank}
 use Rattle.token.specs.Next.{is_blank}
@@ -23,8 +23,8 @@ followed rec x (g ∷ gs) rest = read (x ∷ (rec rest).value) (rec rest).rest
 
 -- those from the first on, if one stands at the front
 abbrev pub from_first : {A : Type 0} → (List ℕ → Read (List A)) → List ℕ → Option (Read A) → Read (List A)
-from_first rec l none = read [] l
-from_first rec l (some r) = followed rec r.value (cut is_blank r.rest).value (cut is_blank r.rest).rest
+from_first rec l None = read [] l
+from_first rec l (Some r) = followed rec r.value (cut is_blank r.rest).value (cut is_blank r.rest).rest
 
 -- by the reader of one
 module _ {A : Type 0} (one : List ℕ → Option (Read A)) where

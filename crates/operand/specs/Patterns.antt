@@ -1,6 +1,6 @@
 -- `-aspath`: optional `^`, items parted by blanks, optional `$`; blanks around these are free.
 use Rattle.std.specs.Prelude.{ℕ, ◌+◌, ◌≤◌, ◌≡◌, Bool, true, false, List, [], ◌∷◌, ◌++◌, length, drop}
-use Rattle.std.proofs.Math.Option.{Option, none, some}
+use Rattle.std.specs.Prelude.{Option, None, Some}
 use Rattle.octets.specs.Choice.{pick, or_else, onward}
 use Rattle.octets.specs.Lists.{Every}
 use Rattle.aspath.specs.declared.Item.{Item}
@@ -39,9 +39,9 @@ pub record PatternOperand (bs : List ℕ) (p : Pattern) : Type 0 where
 -- the item at the front
 unfoldable pub item_read : List ℕ → Option (Read Item)
 item_read l =
-    or_else (onward (as_number l) (λ n. some (read (Number n.value) n.rest)))
-    (or_else (onward (after 46 l) (λ r. some (read Any r)))
-    (onward (after 33 l) (λ r. onward (as_number r) (λ n. some (read (Other n.value) n.rest)))))
+    or_else (onward (as_number l) (λ n. Some (read (Number n.value) n.rest)))
+    (or_else (onward (after 46 l) (λ r. Some (read Any r)))
+    (onward (after 33 l) (λ r. onward (as_number r) (λ n. Some (read (Other n.value) n.rest)))))
 
 -- `^`, `$` or an item
 abbrev pub has_part : Bool → List Item → Bool → Bool
@@ -52,7 +52,7 @@ has_part false (i ∷ is) false = true
 
 -- what stands behind the items: maybe `$`, blanks, and no more
 abbrev pub pattern_closed : Bool → List Item → Read Bool → Option Pattern
-pattern_closed s is e = pick (has_part s is e.value) (ended (cut is_blank e.rest).rest (record { start = s; items = is; end = e.value })) none
+pattern_closed s is e = pick (has_part s is e.value) (ended (cut is_blank e.rest).rest (record { start = s; items = is; end = e.value })) None
 
 -- blanks and maybe `^`
 abbrev pub pattern_opened : List ℕ → Read Bool

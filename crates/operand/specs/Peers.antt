@@ -1,6 +1,6 @@
 -- `-peer`: AS number, address, or address, blanks, AS number.
 use Rattle.std.specs.Prelude.{ℕ, ◌≤◌, ◌≡◌, List, [], ◌∷◌, ◌++◌, length}
-use Rattle.std.proofs.Math.Option.{Option, none, some}
+use Rattle.std.specs.Prelude.{Option, None, Some}
 use Rattle.octets.specs.Choice.{pick, onward}
 use Rattle.octets.specs.Lists.{Every}
 use Rattle.program.specs.Readings.{Peer, by_as, by_address, by_both}
@@ -21,13 +21,13 @@ pub data PeerOperand : List ℕ → Peer → Type 0 where
 
 -- behind an address: nothing, or blanks and a number
 unfoldable pub behind_address : ℕ → List ℕ → Option Peer
-behind_address a [] = some (by_address a)
-behind_address a (b ∷ bs) = pick (is_blank b) (onward (as_numeral (cut is_blank bs).rest) (λ n. some (by_both a n))) none
+behind_address a [] = Some (by_address a)
+behind_address a (b ∷ bs) = pick (is_blank b) (onward (as_numeral (cut is_blank bs).rest) (λ n. Some (by_both a n))) None
 
 -- by the address at the front, if there is one
 abbrev pub peer_by : List ℕ → Option (Read ℕ) → Option Peer
-peer_by l none = onward (as_numeral l) (λ n. some (by_as n))
-peer_by l (some a) = behind_address a.value a.rest
+peer_by l None = onward (as_numeral l) (λ n. Some (by_as n))
+peer_by l (Some a) = behind_address a.value a.rest
 
 -- the peer that these bytes write
 unfoldable pub peer_operand : List ℕ → Option Peer

@@ -1,6 +1,6 @@
 -- The tests that have an operand, and what an operand of each stands for.
 use Rattle.std.specs.Prelude.{ℕ, List, [], ltb, length}
-use Rattle.std.proofs.Math.Option.{Option, none, some}
+use Rattle.std.specs.Prelude.{Option, None, Some}
 use Rattle.octets.specs.Choice.{pick, onward}
 use Rattle.network.specs.Networks.{Network}
 use Rattle.network.specs.declared.Relation.{Relation}
@@ -37,37 +37,37 @@ pub data StandsFor : Name → List ℕ → Test → Type 0 where
 
 -- the test that an operand of these bytes makes
 unfoldable pub meaning : Name → List ℕ → Option Test
-meaning type_name v = onward (coded type_names v) (λ c. some (type_is c))
-meaning attribute_name v = onward (coded attribute_names v) (λ c. some (has_attribute c))
-meaning path_name v = onward (pattern_operand v) (λ p. some (path_matches p))
-meaning peer_name v = onward (peer_operand v) (λ p. some (peer_is p))
-meaning time_name v = onward (time_operand v) (λ t. some (time_is t.comparison t.seconds t.micros))
-meaning communities_name v = onward (communities_operand v) (λ cs. some (has_communities cs))
-meaning (network_name r) v = onward (network_operand v) (λ n. some (network_is r n.network n.side))
+meaning type_name v = onward (coded type_names v) (λ c. Some (type_is c))
+meaning attribute_name v = onward (coded attribute_names v) (λ c. Some (has_attribute c))
+meaning path_name v = onward (pattern_operand v) (λ p. Some (path_matches p))
+meaning peer_name v = onward (peer_operand v) (λ p. Some (peer_is p))
+meaning time_name v = onward (time_operand v) (λ t. Some (time_is t.comparison t.seconds t.micros))
+meaning communities_name v = onward (communities_operand v) (λ cs. Some (has_communities cs))
+meaning (network_name r) v = onward (network_operand v) (λ n. Some (network_is r n.network n.side))
 
 -- the same, and none where the operand is longer than a text
 unfoldable pub operand_meaning : Name → List ℕ → Option Test
-operand_meaning k v = pick (ltb text_limit (length v)) none (meaning k v)
+operand_meaning k v = pick (ltb text_limit (length v)) None (meaning k v)
 
 -- the records that follow the head of the test that an operand makes; none where it breaks its test's rule
 abbrev pub following_meant : Option Test → List Record
-following_meant none = []
-following_meant (some t) = following_of t
+following_meant None = []
+following_meant (Some t) = following_of t
 
 -- the head of a test and how many records follow it, or that the operand breaks its test's rule
 abbrev pub meant_of : Option Test → Meant
-meant_of none = Broken
-meant_of (some t) = Head (head_fields (head_of t)) (length (following_of t))
+meant_of None = Broken
+meant_of (Some t) = Head (head_fields (head_of t)) (length (following_of t))
 
 -- the record of a code, of a kind
 abbrev pub code_meant : ℕ → Option ℕ → Meant
-code_meant k none = Broken
-code_meant k (some c) = Head (fields k 0 0 c 0) 0
+code_meant k None = Broken
+code_meant k (Some c) = Head (fields k 0 0 c 0) 0
 
 -- the record of a peer
 abbrev pub peer_meant : Option Peer → Meant
-peer_meant o = meant_of (onward o (λ p. some (peer_is p)))
+peer_meant o = meant_of (onward o (λ p. Some (peer_is p)))
 
 -- the record of a network on a side
 abbrev pub network_meant : Relation → Side → Option Network → Meant
-network_meant r s o = meant_of (onward o (λ n. some (network_is r n s)))
+network_meant r s o = meant_of (onward o (λ n. Some (network_is r n s)))

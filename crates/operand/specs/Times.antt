@@ -1,6 +1,6 @@
 -- `-timestamp`: optional `>=`, `>`, `=`, `<`, `<=` (none means `=`), seconds below 2^32, optionally a dot and 1 to 6 digits.
 use Rattle.std.specs.Prelude.{ℕ, ◌+◌, ◌-◌, ◌*◌, ◌^◌, ◌≤◌, ◌<◌, ◌≡◌, List, [], ◌∷◌, ◌++◌, length, get_or, drop, eqb, leb}
-use Rattle.std.proofs.Math.Option.{Option, none, some}
+use Rattle.std.specs.Prelude.{Option, None, Some}
 use Rattle.octets.specs.Choice.{pick, onward}
 use Rattle.program.specs.Readings.{Comparison, equal, below, at_most, above, at_least}
 use Rattle.program.specs.Layout.{comparison_code}
@@ -57,16 +57,16 @@ comparison l =
 
 -- the number that digits say after a number, with any zeros; none where another byte stands
 unfoldable pub any_digits : ℕ → List ℕ → Option ℕ
-any_digits n [] = some n
-any_digits n (b ∷ bs) = pick (is_digit b) (any_digits (10 * n + (b - 48)) bs) none
+any_digits n [] = Some n
+any_digits n (b ∷ bs) = pick (is_digit b) (any_digits (10 * n + (b - 48)) bs) None
 
 -- the microseconds of what stands behind the seconds
 unfoldable pub fraction_of : List ℕ → Option ℕ
-fraction_of [] = some 0
+fraction_of [] = Some 0
 fraction_of (x ∷ bs) =
     pick (eqb x 46)
     (pick (leb 1 (length bs))
-    (pick (leb (length bs) fraction_digits) (onward (any_digits 0 bs) (λ n. some (n * 10 ^ (fraction_digits - length bs)))) none) none) none
+    (pick (leb (length bs) fraction_digits) (onward (any_digits 0 bs) (λ n. Some (n * 10 ^ (fraction_digits - length bs)))) None) None) None
 
 -- what an operand of `-timestamp` says
 pub record Moment : Type 0 where
@@ -82,7 +82,7 @@ moment c s m = record { comparison = c; seconds = s; micros = m }
 unfoldable pub time_operand : List ℕ → Option Moment
 time_operand l =
     onward (number seconds_limit (comparison l).rest) (λ s. onward (fraction_of s.rest) (λ m.
-    some (moment (comparison l).value s.value m)))
+    Some (moment (comparison l).value s.value m)))
 
 -- a comparison by its code, and where it ends
 pub record Signed (s : List ℕ) (r : Sign) : Type 0 where

@@ -1,8 +1,7 @@
 // Operands: what the bytes of a test's operand stand for.
 #![tactic(auto)]
 
-ghost use Rattle.std.specs.Prelude.{◌≡◌, ◌+◌, ◌-◌, ◌*◌, ◌^◌, ◌≤◌, ◌<◌, length, drop, leb};
-ghost use Rattle.std.proofs.Math.Option.{some};
+ghost use Rattle.std.specs.Prelude.{◌≡◌, ◌+◌, ◌-◌, ◌*◌, ◌^◌, ◌≤◌, ◌<◌, length, drop, leb, Some};
 ghost use Rattle.octets.specs.Choice.{pick, or_else, onward};
 ghost use Rattle.octets.specs.Writes.{Written};
 ghost use Rattle.program.specs.Readings.{by_as, Side};
@@ -337,7 +336,7 @@ fn peer_behind(bytes: &[u8], at: usize, address: u32) -> Meant
 
 // The record of a peer by its AS number alone.
 fn peer_by_as(bytes: &[u8]) -> Meant
-    ensures { result ≡ peer_meant (onward (as_numeral bytes.now) (λ n. some (by_as n))) }
+    ensures { result ≡ peer_meant (onward (as_numeral bytes.now) (λ n. Some (by_as n))) }
 {
     let Number::Read { value, end: _ } = as_numeral(bytes, 0) else {
         return Meant::Broken;

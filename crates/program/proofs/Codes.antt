@@ -3,7 +3,7 @@ use Prim.Native.Nat.{ℕ, ◌≤◌}
 use native.Mathlib.Omega.{arith}
 use mathlib.Core.Path.{◌≡◌, refl, sym}
 use mathlib.Core.Bool.{Bool, true, false}
-use mathlib.Core.Option.{Option, some}
+use Rattle.std.specs.Prelude.{Option, Some}
 use Rattle.octets.proofs.Choices.{never}
 use Rattle.network.specs.declared.Relation.{Relation}
 use Rattle.network.specs.declared.Relation.TheVariants.{Exact, Supernet, Subnet, Related}
@@ -13,18 +13,18 @@ use Rattle.octets.proofs.Ranges.{within}
 
 -- ---- each is the one that its code says
 
-pub relation_same : (r : Relation) → relation_is (relation_code r) ≡ some r
+pub relation_same : (r : Relation) → relation_is (relation_code r) ≡ Some r
 relation_same Exact = refl
 relation_same Supernet = refl
 relation_same Subnet = refl
 relation_same Related = refl
 
-pub side_same : (s : Side) → side_is (side_code s) ≡ some s
+pub side_same : (s : Side) → side_is (side_code s) ≡ Some s
 side_same either_side = refl
 side_same announced = refl
 side_same withdrawn = refl
 
-pub comparison_same : (c : Comparison) → comparison_is (comparison_code c) ≡ some c
+pub comparison_same : (c : Comparison) → comparison_is (comparison_code c) ≡ Some c
 comparison_same equal = refl
 comparison_same below = refl
 comparison_same at_most = refl
@@ -62,10 +62,10 @@ ends_few false false = omega arith
 -- a number says a thing, whose code it is
 pub record Coded {A : Type 0} (says : Option A) (code : A → ℕ) (n : ℕ) : Type 0 where
   pub thing : A
-  pub said : says ≡ some thing
+  pub said : says ≡ Some thing
   pub coded : code thing ≡ n
 
-coded : {A : Type 0} {code : A → ℕ} (a : A) → Coded (some a) code (code a)
+coded : {A : Type 0} {code : A → ℕ} (a : A) → Coded (Some a) code (code a)
 coded a = record { thing = a; said = refl; coded = refl }
 
 pub relation_code_lem : (v : ℕ) → v ≤ 3 → Coded (relation_is v) relation_code v

@@ -5,7 +5,7 @@ use native.Mathlib.Decide.{dec_le}
 use native.Mathlib.Nat.{lt_of_not-le}
 use mathlib.Core.Path.{◌≡◌, refl, sym, ap, ◌∙◌}
 use mathlib.Core.Bool.{true, false}
-use mathlib.Core.Option.{Option, some}
+use Rattle.std.specs.Prelude.{Option, Some}
 use mathlib.Core.List.{List, [], ◌∷◌, ◌++◌, append_assoc}
 use lib.ListN.{length, take, drop, length-append, length-drop}
 use lib.Seq.{drop_at}
@@ -81,7 +81,7 @@ operand_same : (n : Network) → NetworkPossible n → record { bits = address_b
 operand_same n p = ap (λ (b : ℕ). record { bits = b; address = n.address; len = n.len }) (sym (ap (λ (m : Network). m.bits) p.clear))
 
 -- a head is the one that its fields say
-head_same : (h : Head) → PossibleHead h → record_is (head_fields h) ≡ some (head h)
+head_same : (h : Head) → PossibleHead h → record_is (head_fields h) ≡ Some (head h)
 unfolding record_is head_fields
 head_same (type c) p = refl
 head_same (attribute c) p = refl
@@ -94,18 +94,18 @@ head_same (peer (by_address a)) p = refl
 head_same (peer (by_both a n)) p = refl
 head_same loops p = refl
 head_same bogon p = refl
-head_same (network r n s) p = rw (relation_same r, side_same s) (ap (λ (m : Network). some (head (network r m s))) (operand_same n p))
+head_same (network r n s) p = rw (relation_same r, side_same s) (ap (λ (m : Network). Some (head (network r m s))) (operand_same n p))
 head_same (time c seconds micros) p = rw (comparison_same c)
 head_same (communities count) p = refl
 
-item_same : (i : Item) → record_is (item_fields i) ≡ some (item i)
+item_same : (i : Item) → record_is (item_fields i) ≡ Some (item i)
 unfolding record_is item_fields
 item_same (Number n) = refl
 item_same (Other n) = refl
 item_same Any = refl
 
 -- and so is any record
-pub record_same : (r : Record) → Possible r → record_is (fields_of r) ≡ some r
+pub record_same : (r : Record) → Possible r → record_is (fields_of r) ≡ Some r
 unfolding fields_of record_is
 record_same (head h) p = head_same h p
 record_same (item i) p = item_same i
@@ -149,7 +149,7 @@ pub encode_length : (r : Record) → length (encode r) ≡ record_size
 encode_length r = laid_length (fields_of r)
 
 -- a record is decoded from its bytes, whatever follows them
-pub decode_encode : (r : Record) → Possible r → (rest : List ℕ) → decode (encode r ++ rest) ≡ some r
+pub decode_encode : (r : Record) → Possible r → (rest : List ℕ) → decode (encode r ++ rest) ≡ Some r
 decode_encode r p rest = ap record_is (fields_read (possible_fit r p) rest) ∙ record_same r p
 
 -- ---- records one after another
@@ -198,7 +198,7 @@ records_fuel (suc f) (suc g) l h k = go (dec_le record_size (length l)) (records
     go (no n) ih = short_none (suc f) l (lt_of_not-le n) ∙ sym (short_none (suc g) l (lt_of_not-le n))
 
 -- where a record stands, the records are it and those after it
-pub records_next : (l : List ℕ) {r : Record} → record_size ≤ length l → decode l ≡ some r → records_in l ≡ r ∷ records_in (drop record_size l)
+pub records_next : (l : List ℕ) {r : Record} → record_size ≤ length l → decode l ≡ Some r → records_in l ≡ r ∷ records_in (drop record_size l)
 records_next l {r} h e =
     let rest = drop record_size l in
     records_fuel (length l) (suc (length l)) l (omega arith) (omega arith)

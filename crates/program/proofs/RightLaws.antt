@@ -5,7 +5,7 @@ use native.Mathlib.Decide.{dec_le, ℕ_discrete}
 use native.Mathlib.Omega.{arith}
 use mathlib.Core.Path.{◌≡◌, refl, sym, ap, ◌∙◌}
 use mathlib.Core.Bool.{Bool, true, not}
-use mathlib.Core.Option.{some}
+use Rattle.std.specs.Prelude.{Some}
 use mathlib.Core.List.{List, ◌++◌}
 use lib.ListN.{length, take}
 use lib.Dec.{eqb, leb, ltb}
@@ -36,7 +36,7 @@ use Rattle.program.proofs.LayoutLaws.{fields_read, laid_read, possible_fit}
 -- fields are those of the record that they say, and it is possible
 record Right (f : Fields) : Type 0 where
   is : Record
-  said : record_is f ≡ some is
+  said : record_is f ≡ Some is
   same : fields_of is ≡ f
   possible : Possible is
 
@@ -202,7 +202,7 @@ front {l} o e =
 -- the record at the front of right bytes: it is decoded from them, it is possible, and they are its bytes
 pub record RightRecord (l : List ℕ) : Type 0 where
   pub is : Record
-  pub decoded : decode l ≡ some is
+  pub decoded : decode l ≡ Some is
   pub possible : Possible is
   pub bytes : take record_size l ≡ encode is
 
@@ -228,7 +228,7 @@ head_right (path start end count) p =
     λ e.
     let n = ends_none start end (omega arith) in
     p.some n.0 n.1 (omega arith) in
-    both_hold (le-leb _ 3 (ends_few start end)) (both_hold (lt-ltb count weight_limit p.few) (ap not (ne_eqb _ 0 some)))
+    both_hold (le-leb _ 3 (ends_few start end)) (both_hold (lt-ltb count weight_limit p.few) (ap not (ne_eqb _ 0 Some)))
 head_right (peer (by_as n)) p = refl
 head_right (peer (by_address a)) p = refl
 head_right (peer (by_both a n)) p = refl

@@ -1,6 +1,6 @@
 -- The bytes of a record: kind, variant, count (2 bytes), A, B (4 bytes each), 4 zero bytes. Big-endian, unused fields zero.
 use Rattle.std.specs.Prelude.{ℕ, zero, suc, ◌+◌, Bool, true, List, [], ◌∷◌, ◌++◌, length, drop, eqb, leb, ltb}
-use Rattle.std.proofs.Math.Option.{Option, none, some}
+use Rattle.std.specs.Prelude.{Option, None, Some}
 use Rattle.octets.specs.Choice.{pick, onward}
 use Rattle.octets.specs.Numbers.{number_at, bytes_of}
 use Rattle.network.specs.Networks.{address_bits, Network}
@@ -93,21 +93,21 @@ fields_in l = fields (number_at l 0 1) (number_at l 1 1) (number_at l 2 2) (numb
 -- what each code says, if it is one
 
 abbrev pub relation_is : ℕ → Option Relation
-relation_is v = pick (eqb v 0) (some Exact) (pick (eqb v 1) (some Supernet) (pick (eqb v 2) (some Subnet) (pick (eqb v 3) (some Related) none)))
+relation_is v = pick (eqb v 0) (Some Exact) (pick (eqb v 1) (Some Supernet) (pick (eqb v 2) (Some Subnet) (pick (eqb v 3) (Some Related) None)))
 
 abbrev pub side_is : ℕ → Option Side
-side_is b = pick (eqb b 0) (some either_side) (pick (eqb b 1) (some announced) (pick (eqb b 2) (some withdrawn) none))
+side_is b = pick (eqb b 0) (Some either_side) (pick (eqb b 1) (Some announced) (pick (eqb b 2) (Some withdrawn) None))
 
 abbrev pub comparison_is : ℕ → Option Comparison
 comparison_is v =
-    pick (eqb v 0) (some equal)
-    (pick (eqb v 1) (some below) (pick (eqb v 2) (some at_most) (pick (eqb v 3) (some above) (pick (eqb v 4) (some at_least) none))))
+    pick (eqb v 0) (Some equal)
+    (pick (eqb v 1) (Some below) (pick (eqb v 2) (Some at_most) (pick (eqb v 3) (Some above) (pick (eqb v 4) (Some at_least) None))))
 
 abbrev pub item_is : ℕ → ℕ → Option Item
-item_is v a = pick (eqb v 0) (some (Number a)) (pick (eqb v 1) (some (Other a)) (pick (eqb v 2) (some Any) none))
+item_is v a = pick (eqb v 0) (Some (Number a)) (pick (eqb v 1) (Some (Other a)) (pick (eqb v 2) (Some Any) None))
 
 abbrev pub peer_is : ℕ → ℕ → ℕ → Option Peer
-peer_is v a b = pick (eqb v 1) (some (by_as b)) (pick (eqb v 2) (some (by_address a)) (pick (eqb v 3) (some (by_both a b)) none))
+peer_is v a b = pick (eqb v 1) (Some (by_as b)) (pick (eqb v 2) (Some (by_address a)) (pick (eqb v 3) (Some (by_both a b)) None))
 
 -- variants 1 and 3 have `^`, 2 and 3 `$`
 abbrev pub is_start : ℕ → Bool
@@ -117,31 +117,31 @@ abbrev pub is_end : ℕ → Bool
 is_end v = leb 2 v
 
 abbrev pub path_is : ℕ → ℕ → Option Head
-path_is v count = pick (leb v 3) (some (path (is_start v) (is_end v) count)) none
+path_is v count = pick (leb v 3) (Some (path (is_start v) (is_end v) count)) None
 
 -- the network of a network record
 abbrev pub operand_of : Fields → Network
 operand_of f = record { bits = address_bits; address = f.a; len = f.count }
 
 abbrev pub network_said : Option Relation → Network → Option Side → Option Head
-network_said r n s = onward r (λ x. onward s (λ y. some (network x n y)))
+network_said r n s = onward r (λ x. onward s (λ y. Some (network x n y)))
 
 -- the record that fields say, if their kind and variant are any, whatever stands in those that it leaves unused
 unfoldable pub record_is : Fields → Option Record
 record_is f =
-    pick (eqb f.kind type_kind) (some (head (type f.a)))
-    (pick (eqb f.kind attribute_kind) (some (head (attribute f.a)))
-    (pick (eqb f.kind path_kind) (onward (path_is f.variant f.count) (λ h. some (head h)))
-    (pick (eqb f.kind item_kind) (onward (item_is f.variant f.a) (λ i. some (item i)))
-    (pick (eqb f.kind peer_kind) (onward (peer_is f.variant f.a f.b) (λ p. some (head (peer p))))
-    (pick (eqb f.kind loops_kind) (some (head loops))
-    (pick (eqb f.kind bogon_kind) (some (head bogon))
-    (pick (eqb f.kind network_kind) (onward (network_said (relation_is f.variant) (operand_of f) (side_is f.b)) (λ h. some (head h)))
-    (pick (eqb f.kind time_kind) (onward (comparison_is f.variant) (λ c. some (head (time c f.a f.b))))
-    (pick (eqb f.kind flip_kind) (some flip)
-    (pick (eqb f.kind and_kind) (some (pass and f.count))
-    (pick (eqb f.kind or_kind) (some (pass or f.count))
-    (pick (eqb f.kind communities_kind) (some (head (communities f.count))) none))))))))))))
+    pick (eqb f.kind type_kind) (Some (head (type f.a)))
+    (pick (eqb f.kind attribute_kind) (Some (head (attribute f.a)))
+    (pick (eqb f.kind path_kind) (onward (path_is f.variant f.count) (λ h. Some (head h)))
+    (pick (eqb f.kind item_kind) (onward (item_is f.variant f.a) (λ i. Some (item i)))
+    (pick (eqb f.kind peer_kind) (onward (peer_is f.variant f.a f.b) (λ p. Some (head (peer p))))
+    (pick (eqb f.kind loops_kind) (Some (head loops))
+    (pick (eqb f.kind bogon_kind) (Some (head bogon))
+    (pick (eqb f.kind network_kind) (onward (network_said (relation_is f.variant) (operand_of f) (side_is f.b)) (λ h. Some (head h)))
+    (pick (eqb f.kind time_kind) (onward (comparison_is f.variant) (λ c. Some (head (time c f.a f.b))))
+    (pick (eqb f.kind flip_kind) (Some flip)
+    (pick (eqb f.kind and_kind) (Some (pass and f.count))
+    (pick (eqb f.kind or_kind) (Some (pass or f.count))
+    (pick (eqb f.kind communities_kind) (Some (head (communities f.count))) None))))))))))))
 
 -- the record at the front of bytes, if one stands there
 abbrev pub decode : List ℕ → Option Record
@@ -149,8 +149,8 @@ decode l = record_is (fields_in l)
 
 -- a record, and those after it
 abbrev pub on_record : {A : Type 0} → Option Record → (Record → A) → A → A
-on_record none next end = end
-on_record (some r) next end = next r
+on_record None next end = end
+on_record (Some r) next end = next r
 
 -- the records at the front of bytes, up to the end or to the first that is none; f bounds these
 unfoldable pub records_up_to : ℕ → List ℕ → List Record

@@ -3,7 +3,7 @@ use Prim.Native.Nat.{ℕ, zero, suc, ◌+◌, ◌≤◌, ◌<◌}
 use native.Mathlib.Omega.{arith}
 use mathlib.Core.Path.{◌≡◌, refl, sym, ◌∙◌}
 use mathlib.Core.List.{List, ◌++◌}
-use mathlib.Core.Option.{Option, some, none}
+use Rattle.std.specs.Prelude.{Option, Some, None}
 use lib.ListN.{length}
 use Rattle.octets.specs.Numbers.{Octets}
 use Rattle.octets.specs.Rows.{Joined}
@@ -26,8 +26,8 @@ use Rattle.run.proofs.Apart.{Apart, later_alike}
 
 -- a record's refusal is one more seen and refused
 pub one_refused : (why : Refusal) (counting : Option Tally) → OneMore (judge.counted (refused (Record why)) counting) counting
-one_refused why none = uncounted
-one_refused why (some t) = counted
+one_refused why None = uncounted
+one_refused why (Some t) = counted
 
 -- a damaged record gets its refusal where the tally isn't full
 refuses : {program damaged : List ℕ} {why : Refusal} → Valid program → Octets damaged → RefusedWith damaged why → (s : RunState) → (FullTally s.counting → ⊥)

@@ -1,6 +1,6 @@
 -- A damaged record in a run: what a run over `before ++ damaged ++ after` has to do with one over `before ++ after`.
 use Rattle.std.specs.Prelude.{ℕ, suc, ◌+◌, ◌≤◌, ◌<◌, ◌≡◌, List, ◌++◌, length}
-use Rattle.std.proofs.Math.Option.{Option, some, none}
+use Rattle.std.specs.Prelude.{Option, Some, None}
 use Rattle.octets.specs.Numbers.{Octets}
 use Rattle.octets.specs.Rows.{Joined}
 use Rattle.message.specs.declared.Refusal.{Refusal}
@@ -20,8 +20,8 @@ pub record NoneFull (runner : Runner) (program bytes : List ℕ) (s : RunState) 
 
 -- the first tally is the second with one more seen and one more refused; or there is none
 pub data OneMore : Option Tally → Option Tally → Type 0 where
-  uncounted : OneMore none none
-  counted : {t : Tally} → OneMore (some (one_refused t)) (some t)
+  uncounted : OneMore None None
+  counted : {t : Tally} → OneMore (Some (one_refused t)) (Some t)
 
 -- the same number, what was spent, bytes written and line buffer
 pub record SameAnswer (a b : Judging) : Type 0 where

@@ -1,6 +1,6 @@
 -- What `run_step` answers, as a step of a run.
 use Rattle.std.specs.Prelude.{ℕ, List}
-use Rattle.std.proofs.Math.Option.{some}
+use Rattle.std.specs.Prelude.{Some}
 use Rattle.judge.specs.Functions.{judging_of}
 use Rattle.run.specs.declared.Ran.{Ran}
 use Rattle.run.specs.declared.Ran.TheVariants.{Judged, Done, Cut}
@@ -8,6 +8,6 @@ use Rattle.run.specs.Runs.{Stepped, judged, done, cut}
 
 -- an answer, with the line buffer afterwards
 abbrev pub stepped : Ran → List ℕ → Stepped
-stepped (Judged j t next) lines = judged (judging_of j lines (some t)) next
+stepped (Judged j t next) lines = judged (judging_of j lines (Some t)) next
 stepped Done lines = done lines
 stepped (Cut left) lines = cut left lines

@@ -1,8 +1,7 @@
 // A run of records: one step takes the next record, judges it and counts it.
 #![tactic(auto)]
 
-ghost use Rattle.std.specs.Prelude.{◌≡◌};
-ghost use Rattle.std.proofs.Math.Option.{some};
+ghost use Rattle.std.specs.Prelude.{◌≡◌, Some};
 ghost use Rattle.judge.specs.Functions.{our_judge};
 ghost use Rattle.run.specs.Runs.{runner_of};
 ghost use Rattle.run.specs.Stepping.{stepped};
@@ -29,7 +28,7 @@ pub enum Ran {
 // The step at a place: the record that stands there is judged with the program, and counted.
 pub fn run_step(program: &[u8], bytes: &[u8], at: usize, lines: &mut [u8], tally: Tally) -> Ran
     ensures { stepped result lines.new
-        ≡ runner_of our_judge program.now bytes.now at lines.old (some tally) }
+        ≡ runner_of our_judge program.now bytes.now at lines.old (Some tally) }
 {
     let step = walk::step_at(bytes, at);
     match step {

@@ -7,7 +7,7 @@ use native.Mathlib.Omega.{arith}
 use mathlib.Core.Path.{◌≡◌, refl, ap, ◌∙◌}
 use mathlib.Core.Bool.{Bool, true, false}
 use mathlib.Core.List.{List, [], ◌∷◌, ◌++◌}
-use mathlib.Core.Option.{some}
+use Rattle.std.specs.Prelude.{Some}
 use lib.ListN.{length, get_or, take, drop, length-drop, drop_of_length-le}
 use lib.Seq.{drop-cons, drop-drop, take_all}
 use borrow.Author.Tests.{ne_eqb, le-leb, lt-leb}
@@ -26,7 +26,7 @@ use Rattle.token.proofs.Runs.{run_every, run_long, run_split, end_on, end_within
 
 -- a token t of the text: these are the tokens from a place on, and its bytes are within what it takes
 pub record Takes (text : List ℕ) (at : ℕ) (l : Lexeme) (t : Token) : Type 0 where
-  pub is : token_in text l ≡ some t
+  pub is : token_in text l ≡ Some t
   pub lexed : lex_from text at ≡ emit (placed l.start t ∷ []) (lex_from text l.end)
   pub after : at ≤ l.start
   pub ends : l.start < l.end
@@ -69,7 +69,7 @@ blanks_from text at = lex_blanks at (drop at text) ∙ ap (lex between (run_end 
 module _ (text : List ℕ) (p : ℕ) (h : p < length text) where
   -- a mark
   takes_mark : {b : ℕ} {t : Token} (k : Sort) → get_or text p 0 ≡ b → Mark b t
-      → token_in text (lexeme k p (p + 1)) ≡ some t → length (bytes_in text (lexeme k p (p + 1))) ≡ 0 → Takes text p (lexeme k p (p + 1)) t
+      → token_in text (lexeme k p (p + 1)) ≡ Some t → length (bytes_in text (lexeme k p (p + 1))) ≡ 0 → Takes text p (lexeme k p (p + 1)) t
   takes_mark {b} {t} k e m is z = record {
     is = is;
     lexed = ap (lex between p) (byte_first text p h) ∙ rw (e, add-one p) (lex_mark p (drop (suc p) text) m);
@@ -93,7 +93,7 @@ module _ (text : List ℕ) (p : ℕ) (h : p < length text) where
       let bytes : take (e - p) (drop p text) ≡ b ∷ w = rw (size, byte_first text p h) in
       let split : drop p text ≡ b ∷ (w ++ drop e text) = byte_first text p h ∙ ap (λ x. b ∷ x) (run_split is_letter text (p + 1)) in
       record {
-        is = ap (λ x. some (word x)) bytes;
+        is = ap (λ x. Some (word x)) bytes;
         lexed = ap (lex between p) split
             ∙ (lex_word p l (run_every is_letter letter_sound (drop (p + 1) text)) (word_stops (dec_le (length text) e))
             ∙ ap (λ i. emit (placed p (word (b ∷ w)) ∷ []) (lex between i (drop e text))) (omega arith));
@@ -123,7 +123,7 @@ module _ (text : List ℕ) (p : ℕ) (h : p < length text) where
       let split : drop p text ≡ 39 ∷ (w ++ (39 ∷ drop (e + 1) text)) =
       cc (byte_first text p h, run_split is_inner text (p + 1), byte_first text e i, inner_not (get_or text e 0) (end_fails is_inner text (p + 1) i)) in
       record {
-        is = ap (λ x. some (quoted x)) bytes;
+        is = ap (λ x. Some (quoted x)) bytes;
         lexed = ap (lex between p) split
             ∙ (lex_quoted p (drop (e + 1) text) (run_every is_inner inner_sound (drop (p + 1) text))
             ∙ ap (λ i. emit (placed p (quoted w) ∷ []) (lex between i (drop (e + 1) text))) (omega arith));

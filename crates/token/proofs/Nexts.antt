@@ -5,7 +5,7 @@ use native.Mathlib.Omega.{arith}
 use mathlib.Core.Path.{◌≡◌, refl, sym, ap, ◌∙◌}
 use mathlib.Core.List.{List, [], ◌∷◌}
 use mathlib.Core.Logic.{◌⊎◌, inl, inr, ◌↔◌}
-use mathlib.Core.Option.{some, none}
+use Rattle.std.specs.Prelude.{Some, None}
 use lib.ListN.{length}
 use Rattle.token.specs.Tokens.{Token, Placed, placed, Lexes, Unclosed}
 use Rattle.token.specs.Lexer.{Lexed, tokens, unclosed, emit}
@@ -47,7 +47,7 @@ pub record Took (text : List ℕ) (at : ℕ) (l : Lexeme) (t : Token) : Type 0 w
   pub sized : length (bytes_in text l) + l.start ≤ l.end
 
 -- no token is of these sorts
-none_taken : {text : List ℕ} {at : ℕ} {l : Lexeme} {t : Token} {k : Sort} → Takes text at l t → l.sort ≡ k → token_of k (bytes_in text l) ≡ none → ⊥
+none_taken : {text : List ℕ} {at : ℕ} {l : Lexeme} {t : Token} {k : Sort} → Takes text at l t → l.sort ≡ k → token_of k (bytes_in text l) ≡ None → ⊥
 none_taken {text} {at} {l} t e n =
     let z : ◌≡◌ {A = ℕ} 0 1 = cc (t.is, sort_token text l e) in
     omega arith
@@ -78,7 +78,7 @@ behind (tokens us) e = (refl, cc)
 behind (unclosed p) e = let z : ◌≡◌ {A = ℕ} 0 1 = cc in absurd (omega arith)
 
 -- a token is the first that is left
-pub next_token : {text : List ℕ} {at : ℕ} {t : Token} → Closed text at → token_in text (next_at text at) ≡ some t → Took text at (next_at text at) t
+pub next_token : {text : List ℕ} {at : ℕ} {t : Token} → Closed text at → token_in text (next_at text at) ≡ Some t → Took text at (next_at text at) t
 next_token {text} {at} {t} c k = go (next_step text at) k
   where
     took : {l : Lexeme} → Takes text at l t → Took text at l t
@@ -93,7 +93,7 @@ next_token {text} {at} {t} c k = go (next_step text at) k
           sized = x.sized;
         }
 
-    go : {l : Lexeme} → Step text at l → token_in text l ≡ some t → Took text at l t
+    go : {l : Lexeme} → Step text at l → token_in text l ≡ Some t → Took text at l t
     go (at_last e) k = let z : ◌≡◌ {A = ℕ} 0 1 = cc in absurd (omega arith)
     go (opens e) k = let z : ◌≡◌ {A = ℕ} 0 1 = cc in absurd (omega arith)
     go (takes {l} {t = u} x) k =

@@ -1,6 +1,6 @@
 -- The next token of a text from a place on, by positions.
 use Rattle.std.specs.Prelude.{ℕ, suc, ◌+◌, ◌-◌, ◌≤◌, Bool, true, false, not, List, [], ◌∷◌, length, get_or, take, drop, leb, eqb}
-use Rattle.std.proofs.Math.Option.{Option, some, none}
+use Rattle.std.specs.Prelude.{Option, Some, None}
 use Rattle.octets.specs.Choice.{pick}
 use Rattle.token.specs.Texts.{allowed}
 use Rattle.token.specs.Tokens.{Token, open', close, bang, word, quoted, Placed, Lexes}
@@ -103,13 +103,13 @@ bytes_in text l = bytes_of_sort text l.sort l.start l.end
 
 -- a token of a sort, with its bytes
 abbrev pub token_of : Sort → List ℕ → Option Token
-token_of End w = none
-token_of Open w = some open'
-token_of Close w = some close
-token_of Bang w = some bang
-token_of Word w = some (word w)
-token_of Quoted w = some (quoted w)
-token_of Unclosed w = none
+token_of End w = None
+token_of Open w = Some open'
+token_of Close w = Some close
+token_of Bang w = Some bang
+token_of Word w = Some (word w)
+token_of Quoted w = Some (quoted w)
+token_of Unclosed w = None
 
 -- the token that a lexeme is
 abbrev pub token_in : List ℕ → Lexeme → Option Token

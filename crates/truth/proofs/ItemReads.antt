@@ -5,7 +5,7 @@ use native.Mathlib.Decide.{dec_le, ℕ_discrete}
 use native.Mathlib.Omega.{arith}
 use mathlib.Core.Path.{◌≡◌, refl, sym, ap, ◌∙◌}
 use mathlib.Core.Bool.{Bool, true, false}
-use mathlib.Core.Option.{Option, none, some}
+use Rattle.std.specs.Prelude.{Option, None, Some}
 use mathlib.Core.List.{List, [], ◌∷◌}
 use lib.ListN.{length, take, drop}
 use lib.Dec.{eqb, leb, ltb, eqb-zero-suc, eqb-suc-suc}
@@ -32,27 +32,27 @@ use Rattle.truth.proofs.KindReads.{by_kind}
 
 -- there is an answer
 abbrev present : {A : Type 0} → Option A → Bool
-present (some a) = true
-present none = false
+present (Some a) = true
+present None = false
 
-present_some : {A : Type 0} (o : Option A) → present o ≡ true → (a : A) × (o ≡ some a)
-present_some none e = never e
-present_some (some a) e = (a, refl)
+present_some : {A : Type 0} (o : Option A) → present o ≡ true → (a : A) × (o ≡ Some a)
+present_some None e = never e
+present_some (Some a) e = (a, refl)
 
 -- where the variant is at most the last, fields are just those of a record that is one
 pub record Finds {A : Type 0} (one : Record → Option A) (last : ℕ) : Type 0 where
   pub said : (f : Fields) → is_item last f ≡ present (onward (record_is f) one)
 
 -- a head is no item, and so no number
-head_none : {A B : Type 0} (one : Record → Option B) → ((h : Head) → one (head h) ≡ none) → (o : Option A) (h : A → Head)
-    → present (onward (onward o (λ a. some (head (h a)))) one) ≡ false
-head_none one e none h = refl
-head_none one e (some a) h = ap present (e (h a))
+head_none : {A B : Type 0} (one : Record → Option B) → ((h : Head) → one (head h) ≡ None) → (o : Option A) (h : A → Head)
+    → present (onward (onward o (λ a. Some (head (h a)))) one) ≡ false
+head_none one e None h = refl
+head_none one e (Some a) h = ap present (e (h a))
 
 -- what tells items tells them by their kind and variant
 by_variant : {A : Type 0} (one : Record → Option A) (last : ℕ)
-    → ((h : Head) → one (head h) ≡ none) → one flip ≡ none → ((o : Operator) (count : ℕ) → one (pass o count) ≡ none)
-    → ((v a : ℕ) → leb v last ≡ present (onward (onward (item_is v a) (λ i. some (item i))) one)) → Finds one last
+    → ((h : Head) → one (head h) ≡ None) → one flip ≡ None → ((o : Operator) (count : ℕ) → one (pass o count) ≡ None)
+    → ((v a : ℕ) → leb v last ≡ present (onward (onward (item_is v a) (λ i. Some (item i))) one)) → Finds one last
 by_variant one last heads flips passes variants = record { said = λ f. go f (ℕ_discrete f.kind item_kind) }
   where
     go : (f : Fields) → Dec (f.kind ≡ item_kind) → is_item last f ≡ present (onward (record_is f) one)
@@ -70,8 +70,8 @@ by_variant one last heads flips passes variants = record { said = λ f. go f (�
 pub finds_items : Finds item_of last_variant
 finds_items = by_variant item_of last_variant (λ h. refl) refl (λ o count. refl) (λ v a. go v a (dec_le v 2))
   where
-    go : (v a : ℕ) → Dec (v ≤ 2) → leb v 2 ≡ present (onward (onward (item_is v a) (λ i. some (item i))) item_of)
-    go v a (yes h) = within 2 (λ n. leb n 2 ≡ present (onward (onward (item_is n a) (λ i. some (item i))) item_of)) v h refl refl refl
+    go : (v a : ℕ) → Dec (v ≤ 2) → leb v 2 ≡ present (onward (onward (item_is v a) (λ i. Some (item i))) item_of)
+    go v a (yes h) = within 2 (λ n. leb n 2 ≡ present (onward (onward (item_is n a) (λ i. Some (item i))) item_of)) v h refl refl refl
     go v a (no n) =
         let h : 2 < v = lt_of_not-le n in
         simp (lt-leb v 2 h, ne_eqb v 0 (λ e. omega arith), ne_eqb v 1 (λ e. omega arith), ne_eqb v 2 (λ e. omega arith))
@@ -80,8 +80,8 @@ finds_items = by_variant item_of last_variant (λ h. refl) refl (λ o count. ref
 pub finds_numbers : Finds number_of number_variant
 finds_numbers = by_variant number_of number_variant (λ h. refl) refl (λ o count. refl) (λ v a. go v a (dec_le v 2))
   where
-    go : (v a : ℕ) → Dec (v ≤ 2) → leb v 0 ≡ present (onward (onward (item_is v a) (λ i. some (item i))) number_of)
-    go v a (yes h) = within 2 (λ n. leb n 0 ≡ present (onward (onward (item_is n a) (λ i. some (item i))) number_of)) v h refl refl refl
+    go : (v a : ℕ) → Dec (v ≤ 2) → leb v 0 ≡ present (onward (onward (item_is v a) (λ i. Some (item i))) number_of)
+    go v a (yes h) = within 2 (λ n. leb n 0 ≡ present (onward (onward (item_is n a) (λ i. Some (item i))) number_of)) v h refl refl refl
     go v a (no n) =
         let h : 2 < v = lt_of_not-le n in
         simp (lt-leb v 0 (omega arith), ne_eqb v 0 (λ e. omega arith), ne_eqb v 1 (λ e. omega arith), ne_eqb v 2 (λ e. omega arith))
@@ -95,20 +95,20 @@ pub item_fields : (last : ℕ) (f : Fields) → is_item last f ≡ true → Item
 item_fields last f e = let x = each (eqb f.kind item_kind) (leb f.variant last) e in record { kind = eqb-true _ _ x.0; few = leb-true _ _ x.1 }
 
 -- they say the item that their variant says
-pub item_decoded : (f : Fields) {i : Item} → f.kind ≡ item_kind → item_is f.variant f.a ≡ some i → record_is f ≡ some (item i)
+pub item_decoded : (f : Fields) {i : Item} → f.kind ≡ item_kind → item_is f.variant f.a ≡ Some i → record_is f ≡ Some (item i)
 unfolding record_is
 item_decoded f k e = rw (k, e) refl
 
 -- a number's fields say A
-pub number_decoded : (f : Fields) → is_item number_variant f ≡ true → record_is f ≡ some (item (Number f.a))
+pub number_decoded : (f : Fields) → is_item number_variant f ≡ true → record_is f ≡ Some (item (Number f.a))
 number_decoded f s =
     let x = item_fields number_variant f s in
     let v : f.variant ≡ 0 = omega (arith, x.few) in
     item_decoded f x.kind (rw v refl)
 
 -- what is read as one is that one
-pub one_read : {A : Type 0} (one : Record → Option A) {o : Option Record} {r : Record} {a b : A} → onward o one ≡ some a → o ≡ some r → one r ≡ some b → a ≡ b
-one_read one {a = a} {b = b} d e f = let z : some a ≡ some b = sym d ∙ rw e f in cc
+pub one_read : {A : Type 0} (one : Record → Option A) {o : Option Record} {r : Record} {a b : A} → onward o one ≡ Some a → o ≡ Some r → one r ≡ Some b → a ≡ b
+one_read one {a = a} {b = b} d e f = let z : Some a ≡ Some b = sym d ∙ rw e f in cc
 
 -- ---- what may follow a record
 
@@ -125,7 +125,7 @@ communities_stand f l k = let last : last_item f ≡ number_variant = rw k refl 
 -- ---- so many records at the front
 
 -- bytes that are no record hold none
-records_stop : (f : ℕ) (l : List ℕ) → decode l ≡ none → records_up_to f l ≡ []
+records_stop : (f : ℕ) (l : List ℕ) → decode l ≡ None → records_up_to f l ≡ []
 unfolding records_up_to
 records_stop zero l e = refl
 records_stop (suc f) l e = rw e (alike (ltb (length l) record_size) refl refl)
@@ -137,24 +137,24 @@ module _ {A : Type 0} {one : Record → Option A} {last : ℕ} (finds : Finds on
   stand_is zero l = refl
   stand_is (suc n) l = go (dec_le record_size (length l)) (decode l) refl (stand_is n (drop record_size l))
     where
-      counted : (a : A) (o : Option (List A)) → if_any o (λ xs. eqb (length xs) n) ≡ if_any (onward o (λ xs. some (a ∷ xs))) (λ xs. eqb (length xs) (suc n))
-      counted a none = refl
-      counted a (some xs) = sym (eqb-suc-suc (length xs) n)
+      counted : (a : A) (o : Option (List A)) → if_any o (λ xs. eqb (length xs) n) ≡ if_any (onward o (λ xs. Some (a ∷ xs))) (λ xs. eqb (length xs) (suc n))
+      counted a None = refl
+      counted a (Some xs) = sym (eqb-suc-suc (length xs) n)
 
       rest : Option (List A)
       rest = each_of one (take n (records_in (drop record_size l)))
 
       by : (o : Option A) → items_stand last n (drop record_size l) ≡ if_any rest (λ xs. eqb (length xs) n)
-          → both (present o) (items_stand last n (drop record_size l)) ≡ if_any (onward o (λ a. onward rest (λ xs. some (a ∷ xs)))) (λ xs. eqb (length xs) (suc n))
-      by none ih = refl
-      by (some a) ih = ih ∙ counted a rest
+          → both (present o) (items_stand last n (drop record_size l)) ≡ if_any (onward o (λ a. onward rest (λ xs. Some (a ∷ xs)))) (λ xs. eqb (length xs) (suc n))
+      by None ih = refl
+      by (Some a) ih = ih ∙ counted a rest
 
       go : Dec (record_size ≤ length l) → (o : Option Record) → decode l ≡ o
           → items_stand last n (drop record_size l) ≡ if_any rest (λ xs. eqb (length xs) n)
           → items_stand last (suc n) l ≡ if_any (each_of one (take (suc n) (records_in l))) (λ xs. eqb (length xs) (suc n))
       go (no h) o e ih = rw (lt-ltb _ _ (lt_of_not-le h), records_none l (lt_of_not-le h)) (sym (eqb-zero-suc n))
-      go (yes h) none e ih = rw (le-ltb _ _ h, finds.said (fields_in l), e, records_stop (length l) l e) (sym (eqb-zero-suc n))
-      go (yes h) (some r) e ih = rw (le-ltb _ _ h, finds.said (fields_in l), e, records_next l h e) (by (one r) ih)
+      go (yes h) None e ih = rw (le-ltb _ _ h, finds.said (fields_in l), e, records_stop (length l) l e) (sym (eqb-zero-suc n))
+      go (yes h) (Some r) e ih = rw (le-ltb _ _ h, finds.said (fields_in l), e, records_next l h e) (by (one r) ih)
 
   -- what is true of so many records
   pub each_true : (n : ℕ) (l : List ℕ) (test : List A → Bool)
@@ -163,8 +163,8 @@ module _ {A : Type 0} {one : Record → Option A} {last : ℕ} (finds : Finds on
   each_true n l test = rw (stand_is n l) (go (each_of one (take n (records_in l))))
     where
       go : (o : Option (List A)) → if_any o (λ xs. both (eqb (length xs) n) (test xs)) ≡ both (if_any o (λ xs. eqb (length xs) n)) (test (otherwise o []))
-      go none = refl
-      go (some xs) = refl
+      go None = refl
+      go (Some xs) = refl
 
 -- ---- one by one
 
@@ -179,7 +179,7 @@ pub record Next {A : Type 0} (one : Record → Option A) (last n more : ℕ) (l 
   pub is_item_lem : is_item last (fields_in l) ≡ true
   pub rest : items_stand last more (drop record_size l) ≡ true
   pub first : A
-  pub decoded : onward (decode l) one ≡ some first
+  pub decoded : onward (decode l) one ≡ Some first
   pub all : each_in one n l ≡ first ∷ each_in one more (drop record_size l)
 
 module _ {A : Type 0} {one : Record → Option A} {last : ℕ} (finds : Finds one last) where
@@ -187,14 +187,14 @@ module _ {A : Type 0} {one : Record → Option A} {last : ℕ} (finds : Finds on
   unfolding items_stand
   next_of n l s = go (dec_le record_size (length l))
     where
-      put : (a : A) (o : Option (List A)) → if_any o (λ xs. eqb (length xs) n) ≡ true → otherwise (onward o (λ xs. some (a ∷ xs))) [] ≡ a ∷ otherwise o []
-      put a none e = never e
-      put a (some xs) e = refl
+      put : (a : A) (o : Option (List A)) → if_any o (λ xs. eqb (length xs) n) ≡ true → otherwise (onward o (λ xs. Some (a ∷ xs))) [] ≡ a ∷ otherwise o []
+      put a None e = never e
+      put a (Some xs) e = refl
 
-      joined : {a : A} → record_size ≤ length l → (o : Option Record) → decode l ≡ o → onward o one ≡ some a → items_stand last n (drop record_size l) ≡ true
+      joined : {a : A} → record_size ≤ length l → (o : Option Record) → decode l ≡ o → onward o one ≡ Some a → items_stand last n (drop record_size l) ≡ true
           → each_in one (suc n) l ≡ a ∷ each_in one n (drop record_size l)
-      joined f none e d r = let z : ◌≡◌ {A = ℕ} 0 1 = cc in absurd (omega arith)
-      joined {a} f (some x) e d r =
+      joined f None e d r = let z : ◌≡◌ {A = ℕ} 0 1 = cc in absurd (omega arith)
+      joined {a} f (Some x) e d r =
           unfold each_in in unfold each_of in
           rw (records_next l f e, d) (put a (each_of one (take n (records_in (drop record_size l)))) (sym (stand_is finds n (drop record_size l)) ∙ r))
 

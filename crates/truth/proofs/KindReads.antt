@@ -2,7 +2,7 @@
 use Prim.Native.Nat.{ℕ}
 use native.Mathlib.Decide.{ℕ_discrete}
 use mathlib.Core.Path.{◌≡◌}
-use mathlib.Core.Option.{Option, none, some}
+use Rattle.std.specs.Prelude.{Option, None, Some}
 use lib.Dec.{eqb}
 use borrow.Author.Tests.{eq-eqb, ne_eqb}
 use Rattle.octets.specs.Choice.{pick, onward}
@@ -23,20 +23,20 @@ module _ (P : Option Record → Type 0) where
 
   -- what holds of what fields of each kind say holds of what fields say
   pub by_kind : (f : Fields)
-      → (f.kind ≡ type_kind → P (some (head (type f.a))))
-      → (f.kind ≡ attribute_kind → P (some (head (attribute f.a))))
-      → (f.kind ≡ path_kind → P (onward (path_is f.variant f.count) (λ h. some (head h))))
-      → (f.kind ≡ item_kind → P (onward (item_is f.variant f.a) (λ i. some (item i))))
-      → (f.kind ≡ peer_kind → P (onward (peer_is f.variant f.a f.b) (λ p. some (head (peer p)))))
-      → (f.kind ≡ loops_kind → P (some (head loops)))
-      → (f.kind ≡ bogon_kind → P (some (head bogon)))
-      → (f.kind ≡ network_kind → P (onward (network_said (relation_is f.variant) (operand_of f) (side_is f.b)) (λ h. some (head h))))
-      → (f.kind ≡ time_kind → P (onward (comparison_is f.variant) (λ c. some (head (time c f.a f.b)))))
-      → P (some flip)
-      → P (some (pass and f.count))
-      → P (some (pass or f.count))
-      → (f.kind ≡ communities_kind → P (some (head (communities f.count))))
-      → P none
+      → (f.kind ≡ type_kind → P (Some (head (type f.a))))
+      → (f.kind ≡ attribute_kind → P (Some (head (attribute f.a))))
+      → (f.kind ≡ path_kind → P (onward (path_is f.variant f.count) (λ h. Some (head h))))
+      → (f.kind ≡ item_kind → P (onward (item_is f.variant f.a) (λ i. Some (item i))))
+      → (f.kind ≡ peer_kind → P (onward (peer_is f.variant f.a f.b) (λ p. Some (head (peer p)))))
+      → (f.kind ≡ loops_kind → P (Some (head loops)))
+      → (f.kind ≡ bogon_kind → P (Some (head bogon)))
+      → (f.kind ≡ network_kind → P (onward (network_said (relation_is f.variant) (operand_of f) (side_is f.b)) (λ h. Some (head h))))
+      → (f.kind ≡ time_kind → P (onward (comparison_is f.variant) (λ c. Some (head (time c f.a f.b)))))
+      → P (Some flip)
+      → P (Some (pass and f.count))
+      → P (Some (pass or f.count))
+      → (f.kind ≡ communities_kind → P (Some (head (communities f.count))))
+      → P None
       → P (record_is f)
   unfolding record_is
   by_kind f a b c d e g h i j k l m n o =

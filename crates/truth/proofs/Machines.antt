@@ -2,7 +2,7 @@
 use Prim.Native.Nat.{ℕ}
 use mathlib.Core.Path.{◌≡◌, refl, sym, ap, ◌∙◌}
 use mathlib.Core.Bool.{Bool, true}
-use mathlib.Core.Option.{Option, some}
+use Rattle.std.specs.Prelude.{Option, Some}
 use mathlib.Core.List.{List, [], ◌∷◌, map, map-map}
 use lib.ListN.{length}
 use borrow.Author.Tests.{eq-eqb}
@@ -27,13 +27,13 @@ use Rattle.truth.proofs.Spending.{spends_exactly}
 use Rattle.truth.proofs.Verdicts.{verdict_exactly}
 
 -- records that are each what a function made are those that it was made of
-each_same : {A : Type 0} (one : Record → Option A) (made : A → Record) → ((a : A) → one (made a) ≡ some a) → (xs : List A) → each_of one (map made xs) ≡ some xs
+each_same : {A : Type 0} (one : Record → Option A) (made : A → Record) → ((a : A) → one (made a) ≡ Some a) → (xs : List A) → each_of one (map made xs) ≡ Some xs
 unfolding each_of
 each_same one made e [] = refl
 each_same one made e (a ∷ xs) = rw (e a, each_same one made e xs) refl
 
 -- the records of communities are numbers
-asked_same : (cs : List ℕ) → each_of number_of (map item (map Number cs)) ≡ some cs
+asked_same : (cs : List ℕ) → each_of number_of (map item (map Number cs)) ≡ Some cs
 asked_same cs = ap (each_of number_of) (map-map item Number cs) ∙ each_same number_of (λ c. item (Number c)) (λ c. refl) cs
 
 -- the record of a test, with those that follow it, is as true as the test

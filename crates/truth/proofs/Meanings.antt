@@ -4,7 +4,7 @@ use mathlib.Core.Path.{◌≡◌, refl, sym, ap, ◌∙◌}
 use mathlib.Core.Bool.{Bool, true}
 use mathlib.Core.Logic.{◌↔◌}
 use mathlib.Core.List.{List}
-use mathlib.Core.Option.{Option, some, none}
+use Rattle.std.specs.Prelude.{Option, Some, None}
 use borrow.Author.Tests.{eqb-true, eq-eqb, leb-true, le-leb, ltb-true, lt-ltb}
 use Rattle.octets.proofs.Choices.{never, pick_both}
 use Rattle.octets.proofs.Some.{some_of_every, passes_sound, passes_complete}
@@ -71,8 +71,8 @@ path_sound m test e = let b = (pick_both _ _).0 e in go (eqb-true _ _ b.0) (firs
   where
     go : m.type ≡ update → (o : Option (List Segment)) → first_of ask_path m.attributes ≡ o → if_any o (λ segments. test (members segments)) ≡ true
         → (p : List Member) × HasPath m p × (test p ≡ true)
-    go u none f k = never k
-    go u (some s) f k = (members s, record { is_update = u; segments = s; present = f; joined = refl }, k)
+    go u None f k = never k
+    go u (Some s) f k = (members s, record { is_update = u; segments = s; present = f; joined = refl }, k)
 
 -- and none is missed
 path_complete : {m : Message} {p : List Member} → HasPath m p → (test : List Member → Bool) → test p ≡ true → on_path m test ≡ true
@@ -85,8 +85,8 @@ unfolding test_holds
 communities_sound m asked e = let b = (pick_both _ _).0 e in go (eqb-true _ _ b.0) (first_of ask_communities m.attributes) refl b.1
   where
     go : m.type ≡ update → (o : Option (List ℕ)) → first_of ask_communities m.attributes ≡ o → if_any o (λ held. holds_all held asked) ≡ true → HasCommunities m asked
-    go u none f k = never k
-    go u (some held) f k = record { is_update = u; held = held; present = f; all = holds_all_sound held asked k }
+    go u None f k = never k
+    go u (Some held) f k = record { is_update = u; held = held; present = f; all = holds_all_sound held asked k }
 
 -- and none is missed
 communities_complete : {m : Message} {asked : List ℕ} → HasCommunities m asked → test_holds m (has_communities asked) ≡ true

@@ -3,7 +3,7 @@ use Prim.Native.Nat.{ℕ, ◌<◌}
 use native.Mathlib.Omega.{arith}
 use mathlib.Core.Path.{◌≡◌, refl, ap, ◌∙◌}
 use mathlib.Core.Bool.{true, false}
-use mathlib.Core.Option.{some}
+use Rattle.std.specs.Prelude.{Some}
 use mathlib.Core.List.{List}
 use lib.ListN.{drop}
 use borrow.Author.Tests.{ne_eqb}
@@ -48,7 +48,7 @@ module _ (f : Fields) (s : List ℕ) (p : Parts) where
       simp (ne_eqb f.variant 0 (λ e. omega arith), ne_eqb f.variant 1 (λ e. omega arith), ne_eqb f.variant 2 (λ e. omega arith), ne_eqb f.variant 3 (λ e. omega arith))
 
   -- by the side
-  module _ {r : Relation} (known : relation_is f.variant ≡ some r) where
+  module _ {r : Relation} (known : relation_is f.variant ≡ Some r) where
     pub on_announced : f.b ≡ 1 → network_test f (message_at s p) ≡ some_prefix r (operand_of f) (networks_of (part_of s p.announced))
     unfolding message_at
     on_announced e = rw (known, e) refl

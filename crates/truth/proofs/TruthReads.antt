@@ -3,7 +3,7 @@ use Prim.Native.Nat.{ℕ}
 use native.Mathlib.Decide.{ℕ_discrete}
 use mathlib.Core.Path.{◌≡◌, refl, sym, ap, ◌∙◌}
 use mathlib.Core.Bool.{Bool, true, false}
-use mathlib.Core.Option.{Option, some, none}
+use Rattle.std.specs.Prelude.{Option, Some, None}
 use mathlib.Core.List.{List}
 use lib.ListN.{take, drop}
 use lib.Seq.{drop-drop}
@@ -47,8 +47,8 @@ behind program at = drop record_size (drop at program)
 -- a test more comes to the same before it and in it
 one_any : {A : Type 0} (b : Bool) (o : Option A) (test : A → Bool) → both b (if_any o test) ≡ if_any o (λ a. both b (test a))
 one_any true o test = refl
-one_any false none test = refl
-one_any false (some a) test = refl
+one_any false None test = refl
+one_any false (Some a) test = refl
 
 -- and so do two
 both_any : {A : Type 0} (b c : Bool) (o : Option A) (test : A → Bool) → both b (both c (if_any o test)) ≡ if_any o (λ a. both b (both c (test a)))
@@ -63,36 +63,36 @@ module _ (m : Message) (rest : List ℕ) where
 
   -- a head that a code says
   code_said : {A : Type 0} (o : Option A) (h : A → Head)
-      → said (onward o (λ a. some (head (h a)))) ≡ if_any o (λ a. record_truth m (h a) (take (count_of (h a)) (records_in rest)))
-  code_said none h = refl
-  code_said (some a) h = refl
+      → said (onward o (λ a. Some (head (h a)))) ≡ if_any o (λ a. record_truth m (h a) (take (count_of (h a)) (records_in rest)))
+  code_said None h = refl
+  code_said (Some a) h = refl
 
   -- a network
   network_said_lem : (f : Fields)
-      → said (onward (network_said (relation_is f.variant) (operand_of f) (side_is f.b)) (λ h. some (head h))) ≡ both (eqb m.type update) (network_test f m)
+      → said (onward (network_said (relation_is f.variant) (operand_of f) (side_is f.b)) (λ h. Some (head h))) ≡ both (eqb m.type update) (network_test f m)
   unfolding record_truth test_holds
   network_said_lem f = go (relation_is f.variant) (side_is f.b)
     where
-      go : (r : Option Relation) (s : Option Side) → said (onward (network_said r (operand_of f) s) (λ h. some (head h)))
+      go : (r : Option Relation) (s : Option Side) → said (onward (network_said r (operand_of f) s) (λ h. Some (head h)))
           ≡ both (eqb m.type update) (if_any r (λ x. if_any s (λ side. some_prefix x (operand_of f) (prefixes_on side m))))
-      go none s = sym (alike (eqb m.type update) refl refl)
-      go (some x) none = sym (alike (eqb m.type update) refl refl)
-      go (some x) (some side) = refl
+      go None s = sym (alike (eqb m.type update) refl refl)
+      go (Some x) None = sym (alike (eqb m.type update) refl refl)
+      go (Some x) (Some side) = refl
 
   -- a path
   path_said : (f : Fields)
-      → said (onward (path_is f.variant f.count) (λ h. some (head h)))
+      → said (onward (path_is f.variant f.count) (λ h. Some (head h)))
       ≡ both (leb f.variant 3) (both (items_stand last_variant f.count rest) (on_path m (matches (pattern_of f (items_in f.count rest)))))
   unfolding record_truth test_holds count_of
   path_said f = go (leb f.variant 3)
     where
-      go : (b : Bool) → said (onward (pick b (some (path (is_start f.variant) (is_end f.variant) f.count)) none) (λ h. some (head h)))
+      go : (b : Bool) → said (onward (pick b (Some (path (is_start f.variant) (is_end f.variant) f.count)) None) (λ h. Some (head h)))
           ≡ both b (both (items_stand last_variant f.count rest) (on_path m (matches (pattern_of f (items_in f.count rest)))))
       go true = each_true finds_items f.count rest (λ items. on_path m (matches (pattern_of f items)))
       go false = refl
 
   -- communities
-  communities_said : (f : Fields) → said (some (head (communities f.count)))
+  communities_said : (f : Fields) → said (Some (head (communities f.count)))
       ≡ both (items_stand number_variant f.count rest) (both (eqb m.type update)
       (if_any (first_of ask_communities m.attributes) (λ held. holds_all held (numbers_in f.count rest))))
   unfolding record_truth test_holds count_of
@@ -100,9 +100,9 @@ module _ (m : Message) (rest : List ℕ) where
       each_true finds_numbers f.count rest (λ asked. both (eqb m.type update) (if_any (first_of ask_communities m.attributes) (λ held. holds_all held asked)))
 
   -- an item
-  item_said : (o : Option Item) → said (onward o (λ i. some (item i))) ≡ false
-  item_said none = refl
-  item_said (some i) = refl
+  item_said : (o : Option Item) → said (onward o (λ i. Some (item i))) ≡ false
+  item_said None = refl
+  item_said (Some i) = refl
 
   -- a record of no test is false
   none_said : (f : Fields) → (f.kind ≡ type_kind → ⊥) → (f.kind ≡ attribute_kind → ⊥) → (f.kind ≡ path_kind → ⊥) → (f.kind ≡ peer_kind → ⊥)
@@ -184,8 +184,8 @@ module _ (s : List ℕ) (p : Parts) (program : List ℕ) (at : ℕ) {f : Fields}
       where
         none_tested : (x : Option (List Segment)) → (f.kind ≡ path_kind → ⊥) → (f.kind ≡ loops_kind → ⊥) → (f.kind ≡ bogon_kind → ⊥)
             → if_any x (λ y. path_test f (behind program at) (members y)) ≡ false
-        none_tested none x y z = refl
-        none_tested (some y) x q z = simp (ne_eqb _ _ x, ne_eqb _ _ q, ne_eqb _ _ z)
+        none_tested None x y z = refl
+        none_tested (Some y) x q z = simp (ne_eqb _ _ x, ne_eqb _ _ q, ne_eqb _ _ z)
 
         go : Dec (f.kind ≡ path_kind) → Dec (f.kind ≡ loops_kind) → Dec (f.kind ≡ bogon_kind)
             → said m (behind program at) (record_is f) ≡ if_any segments (λ x. path_test f (behind program at) (members x))

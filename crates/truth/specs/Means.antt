@@ -1,8 +1,8 @@
 -- What each test means on a message.
 use Rattle.std.specs.Prelude.{ℕ, ◌+◌, ◌*◌, ◌≤◌, ◌<◌, ◌≡◌, Bool, false, List, ◌++◌, eqb, leb, ltb}
-use Rattle.std.proofs.Math.Option.{Option, some, none}
+use Rattle.std.specs.Prelude.{Option, Some, None}
 use Rattle.octets.specs.Choice.{both}
-use Rattle.octets.specs.Lists.{Some, some_passes}
+use Rattle.octets.specs.Lists.{SomeMember, some_passes}
 use Rattle.network.specs.declared.Relation.{Relation}
 use Rattle.network.specs.Networks.{Network, Relates, relates}
 use Rattle.aspath.specs.Members.{Segment, Member, members}
@@ -22,13 +22,13 @@ use Rattle.program.specs.Records.{second}
 pub record HasPath (m : Message) (path : List Member) : Type 0 where
   pub is_update : m.type ≡ update
   pub segments : List Segment
-  pub present : first_of ask_path m.attributes ≡ some segments
+  pub present : first_of ask_path m.attributes ≡ Some segments
   pub joined : members segments ≡ path
 
 -- an UPDATE with an attribute of a code
 pub record HasCode (m : Message) (code : ℕ) : Type 0 where
   pub is_update : m.type ≡ update
-  pub coded : Some (λ (a : Attribute). code_of a ≡ code) m.attributes
+  pub coded : SomeMember (λ (a : Attribute). code_of a ≡ code) m.attributes
 
 -- the prefixes that a network test looks at
 abbrev pub prefixes_on : Side → Message → List Network
@@ -39,13 +39,13 @@ prefixes_on withdrawn m = m.withdrawn
 -- an UPDATE with a prefix that stands so to a network
 pub record HasPrefix (m : Message) (r : Relation) (operand : Network) (s : Side) : Type 0 where
   pub is_update : m.type ≡ update
-  pub relates : Some (λ (n : Network). Relates r operand n) (prefixes_on s m)
+  pub relates : SomeMember (λ (n : Network). Relates r operand n) (prefixes_on s m)
 
 -- an UPDATE with a COMMUNITY in which every community asked for stands somewhere (request 1)
 pub record HasCommunities (m : Message) (asked : List ℕ) : Type 0 where
   pub is_update : m.type ≡ update
   pub held : List ℕ
-  pub present : first_of ask_communities m.attributes ≡ some held
+  pub present : first_of ask_communities m.attributes ≡ Some held
   pub all : HoldsAll held asked
 
 abbrev pub Compares : Comparison → ℕ → ℕ → Type 0
@@ -83,8 +83,8 @@ same_peer (by_both a n) address number = both (eqb address a) (eqb number n)
 
 -- a test of what is there, false where nothing is
 abbrev pub if_any : {A : Type 0} → Option A → (A → Bool) → Bool
-if_any none test = false
-if_any (some a) test = test a
+if_any None test = false
+if_any (Some a) test = test a
 
 -- a test of the path
 unfoldable pub on_path : Message → (List Member → Bool) → Bool

@@ -1,6 +1,6 @@
 -- The truth of a test's record, from itself and the records that follow it.
 use Rattle.std.specs.Prelude.{ℕ, ◌+◌, Bool, false, List, [], ◌∷◌, length, take, drop, eqb}
-use Rattle.std.proofs.Math.Option.{Option, none, some}
+use Rattle.std.specs.Prelude.{Option, None, Some}
 use Rattle.octets.specs.Choice.{both, onward}
 use Rattle.aspath.specs.declared.Item.{Item}
 use Rattle.aspath.specs.declared.Item.TheVariants.{Number, Other, Any}
@@ -13,16 +13,16 @@ use Rattle.truth.specs.Means.{if_any, test_holds}
 
 -- the item that a record is, if it is one
 abbrev pub item_of : Record → Option Item
-item_of (item i) = some i
-item_of (head h) = none
-item_of flip = none
-item_of (pass o count) = none
+item_of (item i) = Some i
+item_of (head h) = None
+item_of flip = None
+item_of (pass o count) = None
 
 -- the number that an item is, if it is one
 abbrev pub number_in : Item → Option ℕ
-number_in (Number n) = some n
-number_in (Other n) = none
-number_in Any = none
+number_in (Number n) = Some n
+number_in (Other n) = None
+number_in Any = None
 
 -- the number that a record is, if it is one
 abbrev pub number_of : Record → Option ℕ
@@ -30,8 +30,8 @@ number_of r = onward (item_of r) number_in
 
 -- what records are, if each is one
 unfoldable pub each_of : {A : Type 0} → (Record → Option A) → List Record → Option (List A)
-each_of one [] = some []
-each_of one (r ∷ rs) = onward (one r) (λ a. onward (each_of one rs) (λ xs. some (a ∷ xs)))
+each_of one [] = Some []
+each_of one (r ∷ rs) = onward (one r) (λ a. onward (each_of one rs) (λ xs. Some (a ∷ xs)))
 
 -- a path is true if items follow it, as many as it counts, and the pattern of these is; communities are if numbers follow, as many as
 -- counted, and the test of these is
@@ -53,11 +53,11 @@ record_truth m (communities count) following =
 
 -- a record's truth, with those of its count after it; one that is no test, and bytes that are no record, are false
 abbrev pub truth_of : Message → Option Record → List Record → Bool
-truth_of m (some (head h)) after = record_truth m h (take (count_of h) after)
-truth_of m (some (item i)) after = false
-truth_of m (some flip) after = false
-truth_of m (some (pass o count)) after = false
-truth_of m none after = false
+truth_of m (Some (head h)) after = record_truth m h (take (count_of h) after)
+truth_of m (Some (item i)) after = false
+truth_of m (Some flip) after = false
+truth_of m (Some (pass o count)) after = false
+truth_of m None after = false
 
 -- the truth of the record at a place of a program
 unfoldable pub truth_at : Message → List ℕ → ℕ → Bool

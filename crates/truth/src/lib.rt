@@ -1,8 +1,7 @@
 // Whether a test is true of a message.
 #![tactic(auto)]
 
-ghost use Rattle.std.specs.Prelude.{◌≡◌, true, ◌+◌, ◌*◌, ◌≤◌, drop};
-ghost use Rattle.std.proofs.Math.Option.{some};
+ghost use Rattle.std.specs.Prelude.{◌≡◌, true, ◌+◌, ◌*◌, ◌≤◌, drop, Some};
 ghost use Rattle.network.specs.Networks.{network_in};
 ghost use Rattle.aspath.specs.Members.{members};
 ghost use Rattle.aspath.specs.Wire.{width_bytes, members_of};
@@ -90,7 +89,7 @@ fn in_time(f: Fields, seconds: u32) -> bool
 
 fn relation_of(variant: u32) -> Relation
     requires { variant ≤ 3 }
-    ensures { relation_is variant ≡ some result }
+    ensures { relation_is variant ≡ Some result }
 {
     match variant {
         0 => Relation::Exact,
@@ -150,7 +149,7 @@ fn has_prefix(f: Fields, record: &[u8], parts: Parts) -> bool
 // The item at a place where one stands.
 fn item_at(records: &[u8], at: usize) -> Item
     requires { is_item last_variant (fields_in (drop at records.now)) ≡ true }
-    ensures { decode (drop at records.now) ≡ some (item result) }
+    ensures { decode (drop at records.now) ≡ Some (item result) }
 {
     let f = program::fields_at(records, at);
     if f.variant == 0 {

@@ -1,7 +1,7 @@
 -- `grainlantern::judge_records` hands on lines of the run only, and ends. The invariant: some step of the run comes to this place, line buffer and
 -- tally. The measure is the number of bytes left, which falls with each record. Assumes nothing.
 use mathlib.Core.Path.{sym, subst}
-use mathlib.Core.Option.{some}
+use Rattle.std.specs.Prelude.{Some}
 use Rattle.judge.specs.Functions.{our_judge}
 use borrow.Author.Rules.{rules}
 use Rattle.grainlantern.proofs.Onward.{Onward, onward, reached_start, reached_next, reached_lines}
@@ -18,7 +18,7 @@ write_lines-requires c = let from = c.loop-judged.invariant.1 in
 pub loop-judged-smaller : goal.loop-judged-smaller
 loop-judged-smaller c = let a = c.args in
     let l = c.loop-judged in
-    let left = onward our_judge a.program.now a.records.now l.at l.lines (some l.tally) in
+    let left = onward our_judge a.program.now a.records.now l.at l.lines (Some l.tally) in
     rw c.in-Judged.is at (subst (Onward a.records.now l.at) (sym c.run_step-ran.ensures) left)
 
 pub loop-judged-preserved : goal.loop-judged-preserved

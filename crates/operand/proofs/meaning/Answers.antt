@@ -2,7 +2,7 @@
 use Prim.Native.Nat.{ℕ}
 use borrow.Author.Tests.{lt-ltb, le-ltb}
 use mathlib.Core.Path.{◌≡◌, refl}
-use mathlib.Core.Option.{Option, none, some}
+use Rattle.std.specs.Prelude.{Option, None, Some}
 use lib.ListN.{length}
 use Rattle.token.specs.Texts.{text_limit}
 use Rattle.program.specs.Readings.{type_is, has_attribute}
@@ -16,16 +16,16 @@ use Rattle.operand.specs.Tests.{meaning, meant_of, operand_meaning, code_meant}
 use Rattle.operand.proofs.meaning.Goals as goal
 
 -- a code of one kind is a message type
-type_record : (o : Option ℕ) → code_meant type_kind o ≡ meant_of (onward o (λ c. some (type_is c)))
+type_record : (o : Option ℕ) → code_meant type_kind o ≡ meant_of (onward o (λ c. Some (type_is c)))
 unfolding head_fields head_of items_of
-type_record none = refl
-type_record (some c) = refl
+type_record None = refl
+type_record (Some c) = refl
 
 -- and of another an attribute
-attribute_record : (o : Option ℕ) → code_meant attribute_kind o ≡ meant_of (onward o (λ c. some (has_attribute c)))
+attribute_record : (o : Option ℕ) → code_meant attribute_kind o ≡ meant_of (onward o (λ c. Some (has_attribute c)))
 unfolding head_fields head_of items_of
-attribute_record none = refl
-attribute_record (some c) = refl
+attribute_record None = refl
+attribute_record (Some c) = refl
 
 pub returns-then-bytes-gt-TEXT_LIMIT : goal.returns-then-bytes-gt-TEXT_LIMIT
 unfolding operand_meaning

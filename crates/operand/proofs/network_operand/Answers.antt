@@ -2,7 +2,7 @@
 use native.Mathlib.Omega.{arith}
 use borrow.Author.Tests.{eq-eqb, ne_eqb}
 use mathlib.Core.Path.{◌≡◌, refl, sym, ◌∙◌}
-use mathlib.Core.Option.{Option, none, some}
+use Rattle.std.specs.Prelude.{Option, None, Some}
 use lib.ListN.{get_or, drop}
 use Rattle.octets.proofs.Numbers.{number_one}
 use Rattle.network.specs.Networks.{Network}
@@ -16,9 +16,9 @@ use Rattle.operand.proofs.network_operand.Goals as goal
 
 -- a network on a side is the test of that side
 on_side : (r : Relation) (side : Side) (o : Option Network) → network_meant r side o ≡ meant_of
-    (onward (onward o (λ n. some (sided side n))) (λ n. some (network_is r n.network n.side)))
-on_side r side none = refl
-on_side r side (some n) = refl
+    (onward (onward o (λ n. Some (sided side n))) (λ n. Some (network_is r n.network n.side)))
+on_side r side None = refl
+on_side r side (Some n) = refl
 
 pub network_record-requires : goal.network_record-requires
 network_record-requires c = let s = c.args.bytes.now in

@@ -4,7 +4,7 @@ use Prim.Native.Nat.{◌+◌, ◌<◌}
 use native.Mathlib.Numerals.{add-one}
 use mathlib.Core.Path.{◌≡◌, sym, ◌∙◌}
 use mathlib.Core.Bool.{true, false}
-use mathlib.Core.Option.{none, some}
+use Rattle.std.specs.Prelude.{None, Some}
 use lib.ListN.{length, get_or, drop, drop_of_length-le}
 use lib.Seq.{drop-cons}
 use Rattle.program.specs.Layout.{head_fields}
@@ -40,7 +40,7 @@ returns-in_default c = let a = c.args in
     let s = a.bytes.now in
     let b : is_blank (get_or s a.at 0) ≡ true = sym c.is_blank.ensures ∙ c.if-not-is_blank.false in
     let h : a.at < length s = c.if-bytes-at.false in
-    let e : as_numeral (cut is_blank (drop (a.at + 1) s)).rest ≡ none = rw (← blanks_left s (a.at + 1) c.blanks_end-next.ensures)
+    let e : as_numeral (cut is_blank (drop (a.at + 1) s)).rest ≡ None = rw (← blanks_left s (a.at + 1) c.blanks_end-next.ensures)
     (value_none c.as_numeral.ensures c.in_default.is) in
     rw (drop-cons s a.at 0, b, ← add-one a.at, e)
 
@@ -50,6 +50,6 @@ returns c = let a = c.args in
     let s = a.bytes.now in
     let b : is_blank (get_or s a.at 0) ≡ true = sym c.is_blank.ensures ∙ c.if-not-is_blank.false in
     let h : a.at < length s = c.if-bytes-at.false in
-    let e : as_numeral (cut is_blank (drop (a.at + 1) s)).rest ≡ some c.in-Read.value = rw
+    let e : as_numeral (cut is_blank (drop (a.at + 1) s)).rest ≡ Some c.in-Read.value = rw
     (← blanks_left s (a.at + 1) c.blanks_end-next.ensures) (value_some c.as_numeral.ensures c.in-Read.is) in
     rw (c.head-2.ensures, drop-cons s a.at 0, b, ← add-one a.at, e)

@@ -3,7 +3,7 @@ use Prim.Native.Nat.{ℕ}
 use native.Mathlib.Omega.{arith}
 use borrow.Author.Tests.{lt-ltb, le-ltb}
 use mathlib.Core.Path.{◌≡◌, refl, ap}
-use mathlib.Core.Option.{Option, none, some}
+use Rattle.std.specs.Prelude.{Option, None, Some}
 use mathlib.Core.List.{List, [], map}
 use lib.ListN.{length}
 use Rattle.octets.proofs.Writes.{starts, ends}
@@ -24,9 +24,9 @@ use Rattle.operand.specs.declared.Name.TheVariants.{MessageType as type_name, At
 use Rattle.operand.proofs.put_items.Goals as goal
 
 -- a test with no items
-bare : {A : Type 0} (o : Option A) (f : A → Test) → ((a : A) → items_of (f a) ≡ []) → following_meant (onward o (λ a. some (f a))) ≡ []
-bare none f e = refl
-bare (some a) f e = ap (map item) (e a)
+bare : {A : Type 0} (o : Option A) (f : A → Test) → ((a : A) → items_of (f a) ≡ []) → following_meant (onward o (λ a. Some (f a))) ≡ []
+bare None f e = refl
+bare (Some a) f e = ap (map item) (e a)
 
 -- only a path and communities have any
 others_bare : (k : Name) → (k ≡ path_name → ⊥) → (k ≡ communities_name → ⊥) → (v : List ℕ) → following_meant (meaning k v) ≡ []

@@ -1,6 +1,6 @@
 -- `truth::has_communities` meets its contract, by what is found and what follows. Assumes nothing.
 use mathlib.Core.Path.{◌≡◌, refl, sym, ◌∙◌}
-use mathlib.Core.Option.{some}
+use Rattle.std.specs.Prelude.{Some}
 use Rattle.octets.specs.Parts.{part_at}
 use Rattle.aspath.specs.Wire.{width_bytes}
 use Rattle.communities.specs.Communities.{communities_of}
@@ -17,7 +17,7 @@ returns-in_default c = let a = c.args in
 pub returns-then-not-follows : goal.returns-then-not-follows
 returns-then-not-follows c = let a = c.args in
     let held : first_of ask_communities (attributes_of (width_bytes a.width) a.section.now)
-    ≡ some (communities_of (part_at a.section.now c.in-At.start c.in-At.len))
+    ≡ Some (communities_of (part_at a.section.now c.in-At.start c.in-At.len))
     = first_found (asks_communities (width_bytes a.width)) a.section.now ∙ rw (sym c.find-found.ensures ∙ c.in-At.is) refl in
     rw (held, sym c.follows.ensures ∙ c.if-not-follows.true) refl
 
@@ -28,6 +28,6 @@ holds_each-requires c = let a = c.args in
 pub returns : goal.returns
 returns c = let a = c.args in
     let held : first_of ask_communities (attributes_of (width_bytes a.width) a.section.now)
-    ≡ some (communities_of (part_at a.section.now c.in-At.start c.in-At.len))
+    ≡ Some (communities_of (part_at a.section.now c.in-At.start c.in-At.len))
     = first_found (asks_communities (width_bytes a.width)) a.section.now ∙ rw (sym c.find-found.ensures ∙ c.in-At.is) refl in
     rw (held, sym c.follows.ensures ∙ c.if-not-follows.false, ← c.following-count.ensures, ← c.part.ensures) c.holds_each.ensures

@@ -15,7 +15,7 @@ use Rattle.truth.specs.Matching.{items_in, matches_at}
 use Rattle.truth.specs.Records.{item_of}
 use Rattle.truth.proofs.ItemReads.{finds_items, one_read, each_none, Next, next}
 use Rattle.truth.proofs.PathReads.{at_last, at_none, at_end, at_other, at_next}
-use mathlib.Core.Option.{some}
+use Rattle.std.specs.Prelude.{Some}
 use Rattle.program.specs.Records.{item}
 use Rattle.program.specs.Layout.{decode}
 use Rattle.truth.proofs.matches_here.Goals as goal
@@ -30,7 +30,7 @@ none : (n : ℕ) (l : List ℕ) → n ≡ 0 → items_in n l ≡ []
 none n l z = ap (λ (n : ℕ). items_in n l) z ∙ each_none item_of l
 
 -- the item read, and those after it
-stands : {n more : ℕ} {l : List ℕ} {i : Item} → Next item_of last_variant n more l → decode l ≡ some (item i)
+stands : {n more : ℕ} {l : List ℕ} {i : Item} → Next item_of last_variant n more l → decode l ≡ Some (item i)
     → items_in n l ≡ i ∷ items_in more (drop record_size l)
 stands h e = h.all ∙ rw (one_read item_of h.decoded e refl) refl
 
