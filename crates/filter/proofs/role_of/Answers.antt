@@ -10,5 +10,5 @@ pub returns-in_default : goal.returns-in_default
 returns-in_default c = let t = c.args.t in
     sym (no_word c.args.text.now t c.in_default.not-Word)
 
-pub returns : goal.returns
-returns c = c.said.ensures ∙ ap role_of c.bytes.ensures ∙ sym (ap role_in (sort_token c.args.text.now c.args.t c.in-Word.is))
+pub returns-in-Word : goal.returns-in-Word
+returns-in-Word c = c.said.ensures ∙ ap role_of c.bytes.ensures ∙ sym (ap role_in (sort_token c.args.text.now c.args.t c.in-Word.is))

@@ -1,33 +1,24 @@
 -- `filter::said` meets its contract. Assumes nothing.
 use native.Mathlib.Omega.{arith}
-use mathlib.Core.Path.{sym, ◌∙◌}
+use mathlib.Core.Path.{◌≡◌, refl}
+use Rattle.std.proofs.lemmas.Slice.Eq.{slice_eq-Decides}
+use Rattle.std.proofs.lemmas.Bool.Decides.{Decides-eqb}
+use Rattle.names.specs.Tables.{found}
 use Rattle.filter.specs.Words.{vocabulary, role_of}
-use Rattle.names.proofs.Finding.{row_found, none_missed, one_missed, missed_found}
-use Rattle.filter.proofs.Roles.{past, words_differ}
+use Rattle.filter.proofs.Roles.{row_hit, row_missed}
 use Rattle.filter.proofs.said.Goals as goal
 
-pub returns-then-same : goal.returns-then-same
+pub loop-known-init : goal.loop-known-init
 unfolding vocabulary role_of
-returns-then-same c = sym (row_found vocabulary past words_differ 0 c.args.word.now (omega arith) c.same.ensures c.if-same.true)
+loop-known-init c = record { same_found = refl }
 
-pub returns-then-same-2 : goal.returns-then-same-2
-unfolding vocabulary role_of
-returns-then-same-2 c = sym (row_found vocabulary past words_differ 1 c.args.word.now (omega arith) c.same-2.ensures c.if-same-2.true)
+pub returns-then-eq : goal.returns-then-eq
+returns-then-eq c = row_hit c.loop-known.invariant c.loop-known-test.true (slice_eq-Decides Decides-eqb _ _ _ c.eq.ensures) c.if-eq.true
 
-pub returns-then-same-3 : goal.returns-then-same-3
-unfolding vocabulary role_of
-returns-then-same-3 c = sym (row_found vocabulary past words_differ 2 c.args.word.now (omega arith) c.same-3.ensures c.if-same-3.true)
-
-pub returns-then-same-4 : goal.returns-then-same-4
-unfolding vocabulary role_of
-returns-then-same-4 c = sym (row_found vocabulary past words_differ 3 c.args.word.now (omega arith) c.same-4.ensures c.if-same-4.true)
+pub loop-known-preserved : goal.loop-known-preserved
+loop-known-preserved c = row_missed c.loop-known.invariant c.loop-known-test.true (slice_eq-Decides Decides-eqb _ _ _ c.eq.ensures) c.if-eq.false
 
 pub returns : goal.returns
-unfolding vocabulary role_of
-returns c = c.test_name.ensures ∙ sym
-    (missed_found
-    (one_missed c.same.ensures c.if-same.false
-    (one_missed c.same-2.ensures c.if-same-2.false
-    (one_missed c.same-3.ensures c.if-same-3.false
-    (one_missed c.same-4.ensures c.if-same-4.false
-    none_missed)))))
+unfolding found
+returns c = let e : c.loop-known.known-index ≡ 14 = omega (arith, c.loop-known-test.false, c.loop-known.auto.known-index-end) in
+    rw e at c.loop-known.invariant.same_found
