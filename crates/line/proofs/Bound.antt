@@ -4,7 +4,7 @@ use native.Mathlib.Omega.{arith}
 use mathlib.Core.Path.{◌≡◌}
 use mathlib.Core.Bool.{Bool, true, false}
 use mathlib.Core.List.{List, [], ◌∷◌}
-use Rattle.std.specs.Prelude.{Option, Map}
+use Rattle.std.specs.Prelude.{Option, option_map}
 use lib.Dec.{ltb, eqb}
 use lib.ListN.{length, take, drop, length-append, length-take, length-drop}
 use borrow.Author.Tests.{ltb-false, leb-true}
@@ -46,7 +46,7 @@ field_short : {A : Type 0} {w : ℕ} {ask : Attribute → Option A} {give : List
     → ((start len : ℕ) → length (text (give (take len (drop start s)))) ≤ k) → length (optional text (first_of ask (attributes_of w s))) ≤ k
 field_short {give = give} {code = code} asks text k s each = rw (first_found asks s) (go (find_of code s))
   where
-    go : (f : Found) → length (optional text (map give (body_at s f))) ≤ k
+    go : (f : Found) → length (optional text (option_map give (body_at s f))) ≤ k
     go (At start len) = unfold optional in each start len
     go Absent = unfold optional in omega arith
 

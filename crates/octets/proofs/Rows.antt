@@ -7,16 +7,37 @@ use mathlib.Core.Path.{◌≡◌, refl, sym, ap, ◌∙◌}
 use mathlib.Core.Bool.{true, false}
 use mathlib.Core.List.{List, [], ◌∷◌, ◌++◌}
 use lib.ListN.{length, take, drop, length-drop, take-append-drop}
+use Rattle.std.specs.Prelude.{Option, Some, None}
 use lib.Seq.{drop_at}
 use borrow.Author.Tests.{eq-eqb, ne_eqb}
 use Rattle.octets.specs.Numbers.{Octets}
 use Rattle.octets.specs.Lists.{total}
-use Rattle.octets.specs.Rows.{Joined, none, more, whole_in, whole, items_in, items}
+use Rattle.octets.specs.Rows.{Joined, none, more, sized, whole_in, whole, items_in, items}
 use Rattle.octets.proofs.Bytes.{octets_drop}
 
 -- an item has no more bytes than there are
 pub record Sizes (size : List ℕ → ℕ) : Type 0 where
   pub fits : (l : List ℕ) → size l ≤ length l
+
+-- the size that is there, and is not 0
+pub record Sized (n k : ℕ) : Type 0 where
+  pub same : n ≡ k
+  pub some : n ≡ 0 → ⊥
+
+-- an answer that is there
+pub sized_some : {n k : ℕ} → Some k ≡ sized n → Sized n k
+sized_some {n = zero} e = let z : ◌≡◌ {A = ℕ} 0 1 = cc in absurd (omega arith)
+sized_some {n = suc n} e = record { same = cc; some = λ z. omega arith }
+
+-- one that is not
+pub sized_none : {n : ℕ} → None ≡ sized n → n ≡ 0
+sized_none {n = zero} e = refl
+sized_none {n = suc n} e = cc
+
+-- and back
+pub some_sized : {n : ℕ} → (n ≡ 0 → ⊥) → sized n ≡ Some n
+some_sized {n = zero} h = absurd (h refl)
+some_sized {n = suc n} h = refl
 
 module _ (size : List ℕ → ℕ) where
   -- where an item stands, fewer bytes are left after it

@@ -1,5 +1,6 @@
 -- Items that stand one after another: prefixes, segments, attributes, numbers.
 use Rattle.std.specs.Prelude.{ℕ, zero, suc, ◌≡◌, Bool, true, false, List, [], ◌∷◌, ◌++◌, length, drop, eqb}
+use Rattle.std.specs.Prelude.{Option, Some, None}
 use Rattle.octets.specs.Choice.{pick}
 
 -- the bytes are those of the items, joined in their order; R says which bytes are an item's
@@ -9,6 +10,11 @@ pub data Joined {A : Type 0} (R : A → List ℕ → Type 0) : List A → List �
       → R a bytes → Joined R more_items rest → joined ≡ bytes ++ rest → Joined R (a ∷ more_items) joined
 
 -- ---- what the code computes
+
+-- a number of bytes where an item stands, and none where 0 says that none does
+abbrev pub sized : ℕ → Option ℕ
+sized zero = None
+sized (suc n) = Some (suc n)
 
 -- Reading such bytes: size is the number of bytes of the item at the front, 0 where none stands there whole; f bounds the items.
 

@@ -228,7 +228,7 @@ head_right (path start end count) p =
     λ e.
     let n = ends_none start end (omega arith) in
     p.some n.0 n.1 (omega arith) in
-    both_hold (le-leb _ 3 (ends_few start end)) (both_hold (lt-ltb count weight_limit p.few) (ap not (ne_eqb _ 0 Some)))
+    both_hold (le-leb _ 3 (ends_few start end)) (both_hold (lt-ltb count weight_limit p.few) (ap not (ne_eqb _ 0 some)))
 head_right (peer (by_as n)) p = refl
 head_right (peer (by_address a)) p = refl
 head_right (peer (by_both a n)) p = refl
