@@ -1,26 +1,19 @@
 -- The role of a word: decided, and at most one. The words of the vocabulary differ by one computed test. Assumes nothing.
-use Prim.Native.Nat.{ℕ, zero, suc, ◌+◌, ◌<◌}
-use native.Mathlib.Numerals.{add-one}
-use native.Mathlib.Omega.{arith}
-use denote.Ref.{Bor}
-use mathlib.Core.Path.{◌≡◌, refl, sym, ◌∙◌}
+use Prim.Native.Nat.{ℕ}
+use mathlib.Core.Path.{◌≡◌, refl}
 use mathlib.Core.Bool.{Bool, true, false}
-use Rattle.std.specs.Bool.{Decides}
-use Rattle.std.specs.Prelude.{Option, Some, None}
+use Rattle.std.specs.Prelude.{Some, None}
 use mathlib.Core.List.{List, [], ◌∷◌, map}
-use lib.ListN.{length, drop, get_or}
 use Rattle.token.specs.Next.{bytes_in, token_of, token_in}
 use Rattle.token.specs.declared.Sort.{Sort}
 use Rattle.token.specs.declared.Sort.TheVariants.{End, Open, Close, Bang, Word, Quoted, Unclosed}
 use Rattle.token.specs.declared.Lexeme.{Lexeme}
 use Rattle.program.specs.Readings.{has_loop}
-use Rattle.filter.specs.Parsing.{role_meant, role_in}
+use Rattle.filter.specs.Parsing.{role_meant, role_said, role_in}
 use Rattle.filter.specs.Words.{Role, flag, vocabulary, Says, role_of}
+use Rattle.octets.specs.Choice.{pick}
 use Rattle.octets.specs.Equal.{same}
-use Rattle.octets.proofs.Choices.{never}
-use Rattle.octets.proofs.Equals.{same_true, same_itself}
 use Rattle.filter.specs.declared.Role.{Role as Said}
-use Rattle.filter.specs.declared.Role.TheVariants.{And}
 use Rattle.operand.proofs.Holding.{some_once}
 use Rattle.names.proofs.Finding.{distinct, found_sound, found_row}
 use Rattle.names.specs.Tables.{Row, row, here, there, found}
@@ -31,9 +24,9 @@ unfolding vocabulary distinct found same
 words_differ = refl
 
 -- a role that was found is said
-pub role_said : (w : List ℕ) {r : Role} → role_of w ≡ Some r → Says w r
+pub says_found : (w : List ℕ) {r : Role} → role_of w ≡ Some r → Says w r
 unfolding role_of
-role_said w e = found_sound vocabulary w e
+says_found w e = found_sound vocabulary w e
 
 -- and none is missed
 pub said_role : {w : List ℕ} {r : Role} → Says w r → role_of w ≡ Some r
@@ -54,47 +47,20 @@ loops_said = there (there here)
 
 -- ---- the code's table
 
--- a row of it
-abbrev pub entry : Bor (List ℕ) × Said → Row Role
-entry (known, role) = row known.now (role_meant role)
+-- its rows, as roles of the words
+abbrev pub meant : Row Said → Row Role
+meant r = row r.word (role_meant r.value)
 
--- the rows from a place on
-abbrev pub rows_from : ℕ → List (Bor (List ℕ) × Said) → List (Row Role)
-rows_from i items = drop i (map entry items)
-
--- what stands past the end
-abbrev past : Bor (List ℕ) × Said
-past = (record { ref_ptr = (0, 0); now = [] }, And)
-
--- the row at a place, and those behind it
-rows_step : (items : List (Bor (List ℕ) × Said)) (i : ℕ) → i < length items → rows_from i items ≡ entry (get_or items i past) ∷ rows_from (suc i) items
-rows_step [] i h = absurd (omega arith)
-rows_step (x ∷ xs) zero h = refl
-rows_step (x ∷ xs) (suc i) h = rows_step xs i (omega arith)
-
--- a word that isn't a row's
-differs : {k w : List ℕ} {b : Bool} → Decides b (k ≡ w) → b ≡ false → same w k ≡ false
-differs {k} {w} d e = go (same w k) (same_true w k)
+-- what is found in it, as a role
+pub found_meant : (rows : List (Row Said)) (w : List ℕ) → role_said (found rows w) ≡ found (map meant rows) w
+unfolding found
+found_meant [] w = refl
+found_meant (r ∷ rs) w = go (same w r.word) (found_meant rs w)
   where
-    go : (c : Bool) → (c ≡ true → w ≡ k) → c ≡ false
-    go true f = never (sym e ∙ d.1 (sym (f refl)))
-    go false f = refl
-
--- no row before a place has the word
-pub record Left (items : List (Bor (List ℕ) × Said)) (i : ℕ) (w : List ℕ) : Type 0 where
-  pub same_found : found (rows_from i items) w ≡ role_of w
-
-module _ {items : List (Bor (List ℕ) × Said)} {i : ℕ} {w : List ℕ} (left : Left items i w) {b : Bool} (h : i < length items)
-    (test : Decides b ((get_or items i past).0.now ≡ w)) where
-  -- the row there has it
-  pub row_hit : b ≡ true → Some (role_meant (get_or items i past).1) ≡ role_of w
-  unfolding found
-  row_hit e = rw (rows_step items i h, test.0 e, same_itself w) at left.same_found
-
-  -- or not
-  pub row_missed : b ≡ false → Left items (i + 1) w
-  unfolding found
-  row_missed e = let x = rw (rows_step items i h, differs test e) at left.same_found in record { same_found = rw (add-one i) x }
+    go : (b : Bool) → role_said (found rs w) ≡ found (map meant rs) w
+        → role_said (pick b (Some r.value) (found rs w)) ≡ pick b (Some (role_meant r.value)) (found (map meant rs) w)
+    go true e = refl
+    go false e = e
 
 -- ---- tokens
 

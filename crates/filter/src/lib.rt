@@ -7,7 +7,7 @@ ghost use Rattle.filter.specs.declared.Refused.{Refused};
 ghost use Rattle.std.proofs.lemmas.List.Edits.{sets};
 ghost use Rattle.token.specs.Texts.{text_limit};
 ghost use Rattle.token.specs.Next.{Closed, next_at, token_in};
-ghost use Rattle.filter.specs.Words.{role_of, name as a_name};
+ghost use Rattle.filter.specs.Words.{name as a_name};
 ghost use Rattle.filter.specs.Grammar.{expression as an_expression, conjunction as a_conjunction, factor as a_factor};
 ghost use Rattle.filter.specs.Levels.{level_limit};
 ghost use Rattle.filter.specs.Answers.{number_of};
@@ -15,9 +15,10 @@ ghost use Rattle.filter.specs.Functions.{compiling_of, our_compiler};
 ghost use Rattle.program.specs.Layout.{record_size, fields, laid};
 ghost use Rattle.filter.specs.Parsing.{role_said, role_in, refused_at, operand_sort, opens_level, Ready, PartSays, TestSays, Whole};
 
+use names::Row;
 use network::Relation;
 use operand::{Meant, Name};
-use program::Fields;
+use program::{Fields, Kind};
 use token::{Lexeme, Sort};
 
 // The most levels open at once.
@@ -91,7 +92,7 @@ impl From<Refusal> for u32 {
 }
 
 // The words of the language, and what each says.
-const VOCABULARY: [(&[u8], Role); 14] = [
+const VOCABULARY: [Row<Role>; 14] = [
     (b"-and", Role::And),
     (b"-or", Role::Or),
     (b"-loops", Role::Loops),
@@ -108,24 +109,12 @@ const VOCABULARY: [(&[u8], Role); 14] = [
     (b"-communities", Role::Named(Name::Communities)),
 ];
 
-// What a word says, if the language has it.
-fn said(word: &[u8]) -> Option<Role>
-    ensures { role_said result ≡ role_of word.now }
-{
-    for (known, role) in VOCABULARY {
-        if known == word {
-            return Some(role);
-        }
-    }
-    None
-}
-
 // What a token says: nothing unless it is a word.
 fn role_of(text: &[u8], t: Lexeme) -> Option<Role>
     ensures { role_said result ≡ role_in (token_in text.now t) }
 {
     match t.sort {
-        Sort::Word => said(token::bytes(text, t)),
+        Sort::Word => names::value_in(&VOCABULARY, token::bytes(text, t)),
         _ => None,
     }
 }
@@ -194,8 +183,8 @@ fn test(text: &[u8], t: Lexeme, out: &mut [u8], n: usize) -> Result<Upto, Refuse
     ensures { TestSays text.now t n out.old result out.new }
 {
     match role_of(text, t) {
-        Some(Role::Loops) => Ok(plain_test(text, t, program::LOOPS, out, n)),
-        Some(Role::Bogons) => Ok(plain_test(text, t, program::BOGON, out, n)),
+        Some(Role::Loops) => Ok(plain_test(text, t, Kind::Loops as u32, out, n)),
+        Some(Role::Bogons) => Ok(plain_test(text, t, Kind::Bogon as u32, out, n)),
         Some(Role::Named(name)) => named(text, name, t, out, n),
         _ => Err(Refusal::Token.at(t.start)),
     }
@@ -222,7 +211,7 @@ fn factor(text: &[u8], level: usize, t: Lexeme, out: &mut [u8], n: usize) -> Res
         Sort::Bang => {
             let inside = deeper(level, t)?;
             let part = factor(text, inside, token::next(text, t.end), out, n)?;
-            put_plain(out, part.n, program::FLIP, 0);
+            put_plain(out, part.n, Kind::Flip as u32, 0);
             Ok(Upto {
                 next: part.next,
                 n: part.n + 1,
@@ -259,7 +248,7 @@ fn conjunction(
     while let Some(Role::And) = role_of(text, part.next) {
         let pass = part.n;
         part = factor(text, level, token::next(text, part.next.end), out, pass + 1)?;
-        put_plain(out, pass, program::AND, part.n - pass - 1);
+        put_plain(out, pass, Kind::And as u32, part.n - pass - 1);
     }
     Ok(part)
 }
@@ -280,7 +269,7 @@ fn expression(
     while let Some(Role::Or) = role_of(text, part.next) {
         let pass = part.n;
         part = conjunction(text, level, token::next(text, part.next.end), out, pass + 1)?;
-        put_plain(out, pass, program::OR, part.n - pass - 1);
+        put_plain(out, pass, Kind::Or as u32, part.n - pass - 1);
     }
     Ok(part)
 }
