@@ -11,7 +11,6 @@ ghost use Rattle.token.specs.Texts.{text_limit};
 ghost use Rattle.operand.specs.Fronts.{wholly};
 ghost use Rattle.operand.specs.Decimals.{byte_limit, word_limit, is_digit, number, numeral, left_at, value_of, ReadAt};
 ghost use Rattle.operand.specs.AsNumbers.{as_limit, as_number, as_numeral};
-ghost use Rattle.names.specs.Names.{named_code};
 ghost use Rattle.operand.specs.Addresses.{part_read, network_read, AddressAt};
 ghost use Rattle.operand.specs.Peers.{behind_address};
 ghost use Rattle.operand.specs.Parted.{PartedAt};
@@ -210,11 +209,11 @@ fn as_numeral(s: &[u8], at: usize) -> Number
 }
 
 // The record of a code: that of a name, or where there is none the number.
-fn code_record(kind: u32, named: u32, bytes: &[u8]) -> Meant
-    ensures { result ≡ code_meant kind (or_else (named_code named) (numeral byte_limit bytes.now)) }
+fn code_record(kind: u32, named: Option<u32>, bytes: &[u8]) -> Meant
+    ensures { result ≡ code_meant kind (or_else named (numeral byte_limit bytes.now)) }
 {
-    if named != names::UNNAMED {
-        return head(kind, 0, 0, named, 0);
+    if let Some(code) = named {
+        return head(kind, 0, 0, code, 0);
     }
     let Number::Read { value, end: _ } = numeral(bytes, 0, BYTE_LIMIT) else {
         return Meant::Broken;
@@ -511,10 +510,9 @@ fn named_community(s: &[u8], at: usize) -> Number
     ensures { ReadAt name_read s.now at word_limit result }
 {
     let end = token::letters_end(s, at);
-    let value = communities::named(&s[at..end]);
-    if value == names::UNNAMED {
+    let Some(value) = communities::named(&s[at..end]) else {
         return Number::Missing;
-    }
+    };
     Number::Read { value, end }
 }
 
