@@ -32,17 +32,3 @@ holds_all_sound held asked e = all_sound (held_sound held) e
 pub holds_all_complete : (held asked : List ℕ) → HoldsAll held asked → holds_all held asked ≡ true
 unfolding holds_all
 holds_all_complete held asked x = all_complete (held_complete held) x
-
--- ---- a body from a place on
-
-module _ (s : List ℕ) (at c : ℕ) where
-  -- the community there, and those after it
-  pub held_next : community_size ≤ length s - at
-      → is_held (communities_of (drop at s)) c ≡ pick (eqb (number_at s at community_size) c) true (is_held (communities_of (drop (at + community_size) s)) c)
-  unfolding is_held some_passes
-  held_next h = rw (communities_next s at h) refl
-
-  -- none is left
-  pub held_end : length s - at < community_size → is_held (communities_of (drop at s)) c ≡ false
-  unfolding is_held some_passes
-  held_end h = rw (communities_end s at h) refl

@@ -23,9 +23,8 @@ ghost use Rattle.truth.specs.Matching.{peer_test, time_test, network_test, items
 ghost use Rattle.truth.specs.Matching.{communities_test};
 
 use aspath::{Item, Members, Width};
-use attributes::Found;
 use message::Parts;
-use network::{Network, Relation};
+use network::{Network, Networks, Relation};
 use program::{Fields, Kind};
 
 // A second in microseconds, as times are compared.
@@ -63,11 +62,7 @@ fn has_code(section: &[u8], code: u32) -> bool
     if program::CODE_LIMIT <= code {
         return false;
     }
-    let found = attributes::find(section, code as u8);
-    let Found::At { start: _, len: _ } = found else {
-        return false;
-    };
-    true
+    attributes::find(section, code as u8).is_some()
 }
 
 fn same_peer(f: Fields, address: u32, number: u32) -> bool
@@ -120,18 +115,7 @@ fn relation_of(variant: u32) -> Option<Relation>
 fn some_prefix(section: &[u8], relation: Relation, operand: Network) -> bool
     ensures { result ≡ some_prefix relation (network_in operand) (networks_of section.now) }
 {
-    let mut at = 0;
-    while at < section.len() {
-        let size = network::prefix_size(section, at);
-        if size == 0 {
-            return false;
-        }
-        if network::related(relation, operand, network::network_at(section, at)) {
-            return true;
-        }
-        at += size;
-    }
-    false
+    Networks(section).any(|prefix| network::related(relation, operand, prefix))
 }
 
 // Whether some prefix of the operand's side does.
@@ -251,15 +235,12 @@ fn true_of_section(f: Fields, behind: &[u8], section: &[u8], width: Width) -> bo
     ensures { result ≡ if_any (first_of ask_path (attributes_of (width_bytes width) section.now))
         (λ segments. path_test f behind.now (members segments)) }
 {
-    let found = attributes::find(section, attributes::AS_PATH);
-    match found {
-        Found::At { start, len } => true_of_path(
-            f,
-            behind,
-            octets::part(section, start, len),
-            width,
-        ),
-        Found::Absent => false,
+    match attributes::find(section, attributes::AS_PATH) {
+        Some(body) => {
+            let path = octets::part(section, body.start, body.len);
+            true_of_path(f, behind, path, width)
+        }
+        None => false,
     }
 }
 
@@ -283,8 +264,7 @@ fn has_communities(f: Fields, behind: &[u8], section: &[u8], width: Width) -> bo
     ensures { result ≡ if_any (first_of ask_communities (attributes_of (width_bytes width) section.now))
         (communities_test f behind.now) }
 {
-    let found = attributes::find(section, attributes::COMMUNITY);
-    let Found::At { start, len } = found else {
+    let Some(held) = attributes::find(section, attributes::COMMUNITY) else {
         return false;
     };
     if !program::follows(f, behind) {
@@ -293,7 +273,7 @@ fn has_communities(f: Fields, behind: &[u8], section: &[u8], width: Width) -> bo
     holds_each(
         behind,
         program::following(f),
-        octets::part(section, start, len),
+        octets::part(section, held.start, held.len),
     )
 }
 
