@@ -98,17 +98,12 @@ fn put_segment(out: &mut [u8], at: usize, s: &[u8], p: usize, width: Width) -> u
 fn put_path(out: &mut [u8], at: usize, s: &[u8], width: Width) -> usize
     ensures { Written out.old at (path_text (segments_of (width_bytes width) s.now)) out.new result }
 {
-    let first = aspath::segment_size(s, 0, width);
-    if first == 0 {
+    let Some(first) = aspath::segment_size(s, 0, width) else {
         return at;
-    }
+    };
     let mut place = put_segment(out, at, s, 0, width);
     let mut p = first;
-    loop {
-        let size = aspath::segment_size(s, p, width);
-        if size == 0 {
-            break;
-        }
+    while let Some(size) = aspath::segment_size(s, p, width) {
         let next = octets::put(out, place, b' ');
         place = put_segment(out, next, s, p, width);
         p += size;

@@ -23,11 +23,11 @@ returns-then-not-follows c = let a = c.args in
 
 pub holds_each-requires : goal.holds_each-requires
 holds_each-requires c = let a = c.args in
-    rw c.following-count.ensures (sym (communities_stand a.f a.behind.now c.requires) ∙ sym c.follows.ensures ∙ c.if-not-follows.false)
+    rw c.following.ensures (sym (communities_stand a.f a.behind.now c.requires) ∙ sym c.follows.ensures ∙ c.if-not-follows.false)
 
 pub returns : goal.returns
 returns c = let a = c.args in
     let held : first_of ask_communities (attributes_of (width_bytes a.width) a.section.now)
     ≡ Some (communities_of (part_at a.section.now c.in-Some.held.start c.in-Some.held.len))
     = first_found (asks_communities (width_bytes a.width)) a.section.now ∙ rw (sym c.find.ensures ∙ c.in-Some.is) refl in
-    rw (held, sym c.follows.ensures ∙ c.if-not-follows.false, ← c.following-count.ensures, ← c.part.ensures) c.holds_each.ensures
+    rw (held, sym c.follows.ensures ∙ c.if-not-follows.false, ← c.following.ensures, ← c.part.ensures) c.holds_each.ensures
