@@ -156,7 +156,7 @@ pub fn member_at(s: &[u8], c: Cursor, width: Width) -> Option<(u32, Cursor)>
             },
         ));
     }
-    if s.len() < c.at || s.len() - c.at < w {
+    if octets::rest(s, c.at).len() < w {
         return None;
     }
     Some((
@@ -225,7 +225,7 @@ pub fn loops(s: &[u8], width: Width) -> bool
 pub fn bogon(n: u32) -> bool
     ensures { result ≡ is_bogon n }
 {
-    BOGONS.iter().any(|r| r.low <= n && n <= r.high)
+    BOGONS.iter().any(|r| (r.low..=r.high).contains(&n))
 }
 
 // Whether some number of the path is a bogon.
