@@ -1,12 +1,11 @@
 -- The communities of a body are short as text. Assumes nothing.
-use Prim.Native.Nat.{ℕ, ◌+◌, ◌-◌, ◌*◌, ◌≤◌, ◌<◌}
+use Prim.Native.Nat.{ℕ, ◌*◌, ◌≤◌}
 use native.Mathlib.Omega.{arith}
-use mathlib.Core.Path.{◌≡◌, ap}
-use mathlib.Core.List.{List, [], ◌∷◌, map}
-use lib.ListN.{length, drop}
-use Rattle.octets.specs.Numbers.{number_at}
+use mathlib.Core.Path.{◌≡◌}
+use mathlib.Core.List.{List}
+use lib.ListN.{length}
 use Rattle.octets.proofs.Rows.{items_cost}
-use Rattle.communities.specs.Communities.{community_size, size_at, community_of, communities_of}
+use Rattle.communities.specs.Communities.{size_at, community_of, communities_of}
 use Rattle.communities.specs.Text.{community_text}
 use Rattle.communities.proofs.Bodies.{size_here, size_long, community_sizes}
 use Rattle.communities.proofs.Texts.{text_short}

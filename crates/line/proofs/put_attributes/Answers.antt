@@ -1,5 +1,4 @@
 -- `line::put_attributes` meets its contract: one writer after another. Assumes nothing.
-use mathlib.Core.List.{[], ◌∷◌, ◌++◌}
 use lib.ListN.{get_or}
 use Rattle.std.proofs.Common.{rules}
 use Rattle.octets.specs.Numbers.{number_at}

@@ -1,13 +1,10 @@
 -- `line::put_prefixes` meets its contract. The loop's invariant: the networks that the iterator has left are left to write. Assumes nothing.
 use native.Mathlib.Omega.{arith}
-use mathlib.Core.Path.{sym, ap, ◌∙◌}
-use mathlib.Core.List.{List, ◌∷◌, map}
-use Rattle.network.specs.declared.Networks.{Networks}
-use Rattle.network.specs.Networks.{network_in}
-use Rattle.network.specs.Left.{networks_left}
+use mathlib.Core.Path.{ap}
+use mathlib.Core.List.{map}
 use Rattle.network.specs.Text.{network_text}
 use Rattle.line.specs.Text.{space}
-use Rattle.line.proofs.Texts.{none_written, begins, next_written, all_written}
+use Rattle.line.proofs.Texts.{none_written, next_written, all_written}
 use Rattle.line.proofs.put_prefixes.Goals as goal
 
 pub returns-in_default : goal.returns-in_default

@@ -1,7 +1,5 @@
 -- `line::put_prefixes` meets its contract. The loop's invariant: the prefixes from `p` on are left to write. Assumes nothing.
-use Prim.Native.Nat.{◌-◌, ◌≤◌}
 use mathlib.Core.List.{map}
-use lib.ListN.{length, drop}
 use Rattle.octets.proofs.Writes.{Midst}
 use Rattle.network.specs.Text.{network_text}
 use Rattle.network.specs.Left.{networks_left}

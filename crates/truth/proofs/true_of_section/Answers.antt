@@ -6,7 +6,7 @@ use Rattle.truth.proofs.true_of_section.Goals as goal
 
 pub returns-in-Some : goal.returns-in-Some
 returns-in-Some c = let a = c.args in
-    rw (first_found (asks_path (width_bytes a.width)) a.section.now, sym c.find.ensures ∙ c.in-Some.is, ← c.part.ensures) c.true_of_path.ensures
+    rw (first_found (asks_path (width_bytes a.width)) a.section.now, sym c.find.ensures ∙ c.in-Some.is, ← c.part-path.ensures) c.true_of_path.ensures
 
 pub returns-in-None : goal.returns-in-None
 returns-in-None c = let a = c.args in

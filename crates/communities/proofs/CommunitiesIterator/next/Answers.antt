@@ -1,9 +1,8 @@
 -- `next` of `communities::Communities` meets its contract: it gives the first of the communities and leaves the others. Assumes nothing.
 use native.Mathlib.Omega.{arith}
-use mathlib.Core.Path.{◌≡◌, refl, sym, ap}
-use mathlib.Core.List.{List, [], ◌∷◌}
+use mathlib.Core.Path.{◌≡◌, refl, ap}
 use lib.ListN.{length}
-use Rattle.std.specs.Prelude.{Option, Some}
+use Rattle.std.specs.Prelude.{Some}
 use Rattle.octets.specs.Rows.{sized}
 use Rattle.octets.proofs.Rows.{items_end, items_taken}
 use Rattle.communities.specs.Communities.{community_size, size_at, community_of}
