@@ -202,10 +202,10 @@ pub fn members_of(body: &[u8], width: Width) -> Members<'_>
 }
 
 // Whether some number returns after another: the search is left at the first loop found.
-pub fn loops(s: &[u8], width: Width) -> bool
-    ensures { result ≡ has_loop (members_of (width_bytes width) s.now) }
+pub fn loops(from: Members) -> bool
+    ensures { result ≡ has_loop (left from.entry) }
 {
-    let mut path = members_of(s, width);
+    let mut path = from;
     'search: loop {
         let Some(n) = path.next() else {
             return false;
@@ -229,10 +229,11 @@ pub fn bogon(n: u32) -> bool
 }
 
 // Whether some number of the path is a bogon.
-pub fn has_bogon(s: &[u8], width: Width) -> bool
-    ensures { result ≡ some_bogon (members_of (width_bytes width) s.now) }
+pub fn has_bogon(from: Members) -> bool
+    ensures { result ≡ some_bogon (left from.entry) }
 {
-    members_of(s, width).any(bogon)
+    let mut path = from;
+    path.any(bogon)
 }
 
 // Whether an item of a pattern takes a member.
