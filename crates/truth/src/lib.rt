@@ -4,7 +4,7 @@
 ghost use Rattle.std.specs.Prelude.{◌≡◌, true, ◌+◌, ◌*◌, drop, Some};
 ghost use Rattle.network.specs.Networks.{network_in};
 ghost use Rattle.aspath.specs.Members.{members};
-ghost use Rattle.aspath.specs.Wire.{width_bytes, members_of};
+ghost use Rattle.aspath.specs.Wire.{width_bytes};
 ghost use Rattle.aspath.specs.Patterns.{matches_here, matches_some};
 ghost use Rattle.aspath.specs.Cursors.{left};
 ghost use Rattle.communities.specs.Communities.{communities_of, holds_all};
@@ -199,33 +199,32 @@ fn is_end(variant: u32) -> bool
 }
 
 // Whether a path record's pattern matches a path; its items are the records behind it.
-fn matches(f: Fields, behind: &[u8], path: &[u8], width: Width) -> bool
+fn matches(f: Fields, behind: &[u8], path: Members) -> bool
     requires { f.kind ≡ path_kind }
-    ensures { result ≡ path_matches f behind.now (members_of (width_bytes width) path.now) }
+    ensures { result ≡ path_matches f behind.now (left path.entry) }
 {
     if program::LAST_ENDS < f.variant || !program::follows(f, behind) {
         return false;
     }
-    let members = aspath::members_of(path, width);
     let count = program::following(f);
     let end = is_end(f.variant);
     if is_start(f.variant) {
-        return matches_here(behind, count, end, members);
+        return matches_here(behind, count, end, path);
     }
-    matches_some(behind, count, end, members)
+    matches_some(behind, count, end, path)
 }
 
 // Whether a test of the path is true of one.
-fn true_of_path(f: Fields, behind: &[u8], path: &[u8], width: Width) -> bool
-    ensures { result ≡ path_test f behind.now (members_of (width_bytes width) path.now) }
+fn true_of_path(f: Fields, behind: &[u8], path: Members) -> bool
+    ensures { result ≡ path_test f behind.now (left path.entry) }
 {
     let Some(kind) = program::kind_of(f.kind) else {
         return false;
     };
     match kind {
-        Kind::Path => matches(f, behind, path, width),
-        Kind::Loops => aspath::loops(path, width),
-        Kind::Bogon => aspath::has_bogon(path, width),
+        Kind::Path => matches(f, behind, path),
+        Kind::Loops => aspath::loops(path),
+        Kind::Bogon => aspath::has_bogon(path),
         _ => false,
     }
 }
@@ -238,7 +237,7 @@ fn true_of_section(f: Fields, behind: &[u8], section: &[u8], width: Width) -> bo
     match attributes::find(section, attributes::AS_PATH) {
         Some(body) => {
             let path = octets::part(section, body.start, body.len);
-            true_of_path(f, behind, path, width)
+            true_of_path(f, behind, aspath::members_of(path, width))
         }
         None => false,
     }
