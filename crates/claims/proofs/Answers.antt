@@ -3,7 +3,7 @@ use Prim.Native.Nat.{ℕ}
 use native.Mathlib.Omega.{arith}
 use mathlib.Core.Path.{◌≡◌, refl, ap, ◌∙◌}
 use mathlib.Core.List.{List}
-use Rattle.std.specs.Prelude.{Option, Some, None}
+use Rattle.std.specs.Prelude.{Option, Some, None, Result, Ok, Err}
 use lib.ListN.{take}
 use borrow.Author.Tests.{ne_eqb}
 use Rattle.filter.specs.declared.Refusal.{Refusal}
@@ -13,9 +13,9 @@ use Rattle.filter.specs.Answers.{number_of}
 use Rattle.filter.specs.Functions.{Compiling, compiling_of, our_compiler}
 use Rattle.filter.proofs.Numbers.{number_between}
 use Rattle.judge.specs.declared.Tally.{Tally}
-use Rattle.judge.specs.declared.Judged as declared
+use Rattle.judge.specs.declared.Verdict.{Verdict}
+use Rattle.judge.specs.declared.Refusal.{Refusal as JudgeRefusal}
 use Rattle.judge.specs.Functions.{Judging, judging_of, our_judge}
-use Rattle.claims.specs.declared.Answer.TheVariants.{Judged, Refused}
 use Rattle.claims.specs.Functions.{judged_with}
 use Rattle.claims.specs.DemandThree.{DemandThreeAt}
 use Rattle.claims.specs.Answered.{compiling_in, judging_in, Claimed}
@@ -30,8 +30,8 @@ module _ (text buffer bytes lines : List ℕ) (counting : Option Tally) where
 
   module _ (c : Compiled) (program : List ℕ) (promise : compiling_of c program ≡ our_compiler text buffer) where
     -- the text compiles, and the record is judged with the reported bytes
-    pub promised_judged : (size : ℕ) → c ≡ compiled.Program size → (j : declared.Judged) (new : List ℕ) (after : Option Tally)
-        → judging_of j new after ≡ our_judge (take size program) bytes lines counting → Claimed text buffer bytes lines counting (Judged size j) program new after
+    pub promised_judged : (size : ℕ) → c ≡ compiled.Program size → (j : Result Verdict JudgeRefusal) (new : List ℕ) (after : Option Tally)
+        → judging_of j new after ≡ our_judge (take size program) bytes lines counting → Claimed text buffer bytes lines counting (Ok (record { bytes = size; judged = j })) program new after
     unfolding compiling_in judging_in compiling_of
     promised_judged size is j new after e =
         let says : compiling_of (compiled.Program size) program ≡ our_compiler text buffer = rw is at promise in
@@ -39,7 +39,7 @@ module _ (text buffer bytes lines : List ℕ) (counting : Option Tally) where
         record { compiled = says; judged = judges; demand = demanded says judges; left_alone = λ n. absurd (n refl) }
 
     -- it doesn't
-    pub promised_refused : (why : Refusal) (place : ℕ) → c ≡ compiled.Refused why place → Claimed text buffer bytes lines counting (Refused why place) program lines counting
+    pub promised_refused : (why : Refusal) (place : ℕ) → c ≡ compiled.Refused why place → Claimed text buffer bytes lines counting (Err (record { refusal = why; place = place })) program lines counting
     unfolding compiling_in judging_in compiling_of
     promised_refused why place is =
         let says : compiling_of (compiled.Refused why place) program ≡ our_compiler text buffer = rw is at promise in
