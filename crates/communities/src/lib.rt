@@ -5,10 +5,11 @@ ghost use Rattle.std.specs.Prelude.{◌≡◌};
 ghost use Rattle.octets.specs.Rows.{whole};
 ghost use Rattle.octets.specs.Writes.{Written};
 ghost use Rattle.names.specs.Tables.{found};
-ghost use Rattle.names.specs.Names.{named_code};
 ghost use Rattle.communities.specs.Communities.{size_at, communities_of, is_held};
 ghost use Rattle.communities.specs.Names.{community_names};
 ghost use Rattle.communities.specs.Text.{halves_text, community_text};
+
+use names::Row;
 
 // The bytes of a community.
 pub const SIZE: usize = 4;
@@ -22,6 +23,12 @@ const NO_EXPORT: u32 = 0xFFFFFF01;
 const NO_ADVERTISE: u32 = 0xFFFFFF02;
 
 const NO_EXPORT_SUBCONFED: u32 = 0xFFFFFF03;
+
+const NAMED: [Row<u32>; 3] = [
+    (b"NO_EXPORT", NO_EXPORT),
+    (b"NO_ADVERTISE", NO_ADVERTISE),
+    (b"NO_EXPORT_SUBCONFED", NO_EXPORT_SUBCONFED),
+];
 
 // Whether a body is communities to its end.
 pub fn well_formed(body: &[u8]) -> bool
@@ -44,20 +51,11 @@ pub fn has(body: &[u8], community: u32) -> bool
     false
 }
 
-// The community of a name; no name is that of 0:0.
-pub fn named(bytes: &[u8]) -> u32
-    ensures { named_code result ≡ found community_names bytes.now }
+// The community of a name.
+pub fn named(bytes: &[u8]) -> Option<u32>
+    ensures { result ≡ found community_names bytes.now }
 {
-    if octets::same(bytes, b"NO_EXPORT") {
-        return NO_EXPORT;
-    }
-    if octets::same(bytes, b"NO_ADVERTISE") {
-        return NO_ADVERTISE;
-    }
-    if octets::same(bytes, b"NO_EXPORT_SUBCONFED") {
-        return NO_EXPORT_SUBCONFED;
-    }
-    names::UNNAMED
+    names::value_in(&NAMED, bytes)
 }
 
 // Writes the halves of a community.

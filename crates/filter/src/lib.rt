@@ -15,7 +15,7 @@ ghost use Rattle.names.specs.Tables.{found};
 
 use network::Relation;
 use operand::{Meant, Name};
-use program::Fields;
+use program::{Fields, Kind};
 use token::{Lexeme, Sort};
 
 // The most levels open at once.
@@ -207,14 +207,14 @@ fn test(text: &[u8], t: Lexeme, out: &mut [u8], n: usize) -> Parsed
     let role = role_of(text, t);
     match role {
         Role::Loops => {
-            program::put_record(out, program::RECORD_SIZE * n, plain(program::LOOPS, 0));
+            program::put_record(out, program::RECORD_SIZE * n, plain(Kind::Loops as u32, 0));
             Parsed::Upto {
                 next: token::next(text, t.end),
                 n: n + 1,
             }
         }
         Role::Bogons => {
-            program::put_record(out, program::RECORD_SIZE * n, plain(program::BOGON, 0));
+            program::put_record(out, program::RECORD_SIZE * n, plain(Kind::Bogon as u32, 0));
             Parsed::Upto {
                 next: token::next(text, t.end),
                 n: n + 1,
@@ -247,7 +247,7 @@ fn factor(text: &[u8], level: usize, t: Lexeme, out: &mut [u8], n: usize) -> Par
             let Parsed::Upto { next, n: m } = r else {
                 return r;
             };
-            program::put_record(out, program::RECORD_SIZE * m, plain(program::FLIP, 0));
+            program::put_record(out, program::RECORD_SIZE * m, plain(Kind::Flip as u32, 0));
             Parsed::Upto { next, n: m + 1 }
         }
         Sort::Open => {
@@ -301,7 +301,7 @@ fn conjunction(text: &[u8], level: usize, t: Lexeme, out: &mut [u8], n: usize) -
         program::put_record(
             out,
             program::RECORD_SIZE * m,
-            plain(program::AND, (m1 - m - 1) as u32),
+            plain(Kind::And as u32, (m1 - m - 1) as u32),
         );
         u = next;
         m = m1;
@@ -332,7 +332,7 @@ fn expression(text: &[u8], level: usize, t: Lexeme, out: &mut [u8], n: usize) ->
         program::put_record(
             out,
             program::RECORD_SIZE * m,
-            plain(program::OR, (m1 - m - 1) as u32),
+            plain(Kind::Or as u32, (m1 - m - 1) as u32),
         );
         u = next;
         m = m1;

@@ -18,7 +18,7 @@ ghost use Rattle.judge.specs.Executing.{tally_of, JudgedAs, passed_over, state_a
 
 use line::Short;
 use message::{Parts, Refusal as RecordRefusal};
-use program::{Class, Fields, Spent};
+use program::{Class, Fields, Kind, Spent};
 
 // A count that can't grow.
 const FULL_COUNT: u32 = u32::MAX;
@@ -114,12 +114,14 @@ fn past(next: usize, count: u32) -> usize
 }
 
 // The records that a pass passes over: none where the flag doesn't decide.
-#[tactic(auto, unfolding(crate::specs::Executing::passed_over))]
+#[tactic(auto, using(program::proofs::KindLaws::kind_test), unfolding(crate::specs::Executing::passed_over))]
 fn passed_over(f: Fields, flag: bool) -> u32
     ensures { result ≡ passed_over f flag }
 {
-    let undecided = flag == (f.kind == program::AND);
-    if undecided { 0 } else { f.count }
+    if (program::kind_of(f.kind) == Some(Kind::And)) == flag {
+        return 0;
+    }
+    f.count
 }
 
 // The state after the record at its place. What can't stand there is passed over.
@@ -133,22 +135,23 @@ fn step(program: &[u8], bytes: &[u8], parts: Parts, state: MachineState) -> Mach
         ..state
     };
     match program::class_of(f.kind) {
-        Class::Test => MachineState {
+        Some(Class::Test) => MachineState {
             at: past(next.at, program::following(f)),
             flag: truth::holds(program, state.at, bytes, parts),
             spent: stepped(state.spent),
         },
-        Class::Flip => MachineState {
+        Some(Class::Flip) => MachineState {
             flag: !state.flag,
             spent: stepped(state.spent),
             ..next
         },
-        Class::Pass => MachineState {
+        Some(Class::Pass) => MachineState {
             at: past(next.at, passed_over(f, state.flag)),
             spent: stepped(state.spent),
             ..next
         },
-        Class::Item | Class::Unknown => next,
+        Some(Class::Item) => next,
+        None => next,
     }
 }
 

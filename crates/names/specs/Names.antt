@@ -1,7 +1,5 @@
 -- The names of message types and of attributes, with their codes.
-use Rattle.std.specs.Prelude.{ℕ, List, [], ◌∷◌, eqb}
-use Rattle.std.specs.Prelude.{Option, None, Some}
-use Rattle.octets.specs.Choice.{pick}
+use Rattle.std.specs.Prelude.{ℕ, List, [], ◌∷◌}
 use Rattle.names.specs.Tables.{Row, row}
 
 -- the names of message types
@@ -31,9 +29,3 @@ attribute_names =
     ∷ row (65 ∷ 83 ∷ 52 ∷ 95 ∷ 65 ∷ 71 ∷ 71 ∷ 82 ∷ 69 ∷ 71 ∷ 65 ∷ 84 ∷ 79 ∷ 82 ∷ []) 18  -- AS4_AGGREGATOR
     ∷ row (76 ∷ 65 ∷ 82 ∷ 71 ∷ 69 ∷ 95 ∷ 67 ∷ 79 ∷ 77 ∷ 77 ∷ 85 ∷ 78 ∷ 73 ∷ 84 ∷ 89 ∷ []) 32  -- LARGE_COMMUNITY
     ∷ []
-
--- ---- what the code computes
-
--- the code's answer for a name: no name of a type, an attribute or a community has 0
-abbrev pub named_code : ℕ → Option ℕ
-named_code r = pick (eqb r 0) None (Some r)

@@ -1,84 +1,60 @@
 // Names of message types and of attributes: the code of each.
 #![tactic(auto)]
 
-ghost use Rattle.std.specs.Prelude.{◌≡◌, drop};
+ghost use Rattle.std.specs.Prelude.{◌≡◌};
 ghost use Rattle.names.specs.Tables.{found};
-ghost use Rattle.names.specs.Names.{type_names, attribute_names, named_code};
+ghost use Rattle.names.specs.Held.{table_of};
+ghost use Rattle.names.specs.Names.{type_names, attribute_names};
 
-// What is answered for bytes that are no name.
-pub const UNNAMED: u32 = 0;
+// A word and what it stands for.
+pub type Row<T> = (&'static [u8], T);
 
-// The code of a message type's name.
-pub fn type_named(bytes: &[u8]) -> u32
-    ensures { named_code result ≡ found type_names bytes.now }
+const TYPES: [Row<u32>; 5] = [
+    (b"OPEN", 1),
+    (b"UPDATE", 2),
+    (b"NOTIFICATION", 3),
+    (b"KEEPALIVE", 4),
+    (b"ROUTE_REFRESH", 5),
+];
+
+const ATTRIBUTES: [Row<u32>; 13] = [
+    (b"ORIGIN", 1),
+    (b"AS_PATH", 2),
+    (b"NEXT_HOP", 3),
+    (b"MULTI_EXIT_DISC", 4),
+    (b"LOCAL_PREF", 5),
+    (b"ATOMIC_AGGREGATE", 6),
+    (b"AGGREGATOR", 7),
+    (b"COMMUNITY", 8),
+    (b"MP_REACH_NLRI", 14),
+    (b"MP_UNREACH_NLRI", 15),
+    (b"AS4_PATH", 17),
+    (b"AS4_AGGREGATOR", 18),
+    (b"LARGE_COMMUNITY", 32),
+];
+
+// The value of the first row with a word.
+pub fn value_in<T: Copy>(rows: &[Row<T>], word: &[u8]) -> Option<T>
+    ensures { result ≡ found (table_of rows.now) word.now }
 {
-    if octets::same(bytes, b"OPEN") {
-        return 1;
+    for (name, value) in rows {
+        if *name == word {
+            return Some(*value);
+        }
     }
-    if octets::same(bytes, b"UPDATE") {
-        return 2;
-    }
-    if octets::same(bytes, b"NOTIFICATION") {
-        return 3;
-    }
-    if octets::same(bytes, b"KEEPALIVE") {
-        return 4;
-    }
-    if octets::same(bytes, b"ROUTE_REFRESH") {
-        return 5;
-    }
-    UNNAMED
+    None
 }
 
-// The codes of the attributes' names from 14 on.
-fn later_attribute_named(bytes: &[u8]) -> u32
-    ensures { named_code result ≡ found (drop 8 attribute_names) bytes.now }
+// The code of a message type's name.
+pub fn type_named(bytes: &[u8]) -> Option<u32>
+    ensures { result ≡ found type_names bytes.now }
 {
-    if octets::same(bytes, b"MP_REACH_NLRI") {
-        return 14;
-    }
-    if octets::same(bytes, b"MP_UNREACH_NLRI") {
-        return 15;
-    }
-    if octets::same(bytes, b"AS4_PATH") {
-        return 17;
-    }
-    if octets::same(bytes, b"AS4_AGGREGATOR") {
-        return 18;
-    }
-    if octets::same(bytes, b"LARGE_COMMUNITY") {
-        return 32;
-    }
-    UNNAMED
+    value_in(&TYPES, bytes)
 }
 
 // The code of an attribute's name.
-pub fn attribute_named(bytes: &[u8]) -> u32
-    ensures { named_code result ≡ found attribute_names bytes.now }
+pub fn attribute_named(bytes: &[u8]) -> Option<u32>
+    ensures { result ≡ found attribute_names bytes.now }
 {
-    if octets::same(bytes, b"ORIGIN") {
-        return 1;
-    }
-    if octets::same(bytes, b"AS_PATH") {
-        return 2;
-    }
-    if octets::same(bytes, b"NEXT_HOP") {
-        return 3;
-    }
-    if octets::same(bytes, b"MULTI_EXIT_DISC") {
-        return 4;
-    }
-    if octets::same(bytes, b"LOCAL_PREF") {
-        return 5;
-    }
-    if octets::same(bytes, b"ATOMIC_AGGREGATE") {
-        return 6;
-    }
-    if octets::same(bytes, b"AGGREGATOR") {
-        return 7;
-    }
-    if octets::same(bytes, b"COMMUNITY") {
-        return 8;
-    }
-    later_attribute_named(bytes)
+    value_in(&ATTRIBUTES, bytes)
 }

@@ -1,5 +1,5 @@
 -- Laws of items that stand one after another: reading them back, and that their bytes have one reading. Assumes nothing.
-use Prim.Native.Nat.{ℕ, zero, suc, ◌+◌, ◌*◌, ◌≤◌, ◌<◌}
+use Prim.Native.Nat.{ℕ, zero, suc, ◌+◌, ◌-◌, ◌*◌, ◌≤◌, ◌<◌}
 use native.Mathlib.Nat.{mul-add}
 use native.Mathlib.Decide.{ℕ_discrete}
 use native.Mathlib.Omega.{arith}
@@ -8,7 +8,9 @@ use mathlib.Core.Bool.{true, false}
 use mathlib.Core.List.{List, [], ◌∷◌, ◌++◌}
 use lib.ListN.{length, take, drop, length-drop, take-append-drop}
 use Rattle.std.specs.Prelude.{Option, Some, None}
-use lib.Seq.{drop_at}
+use Rattle.std.proofs.lemmas.List.{take_rest}
+use lib.Seq.{drop_at, drop-drop}
+use lib.Dec.{eqb}
 use borrow.Author.Tests.{eq-eqb, ne_eqb}
 use Rattle.octets.specs.Numbers.{Octets}
 use Rattle.octets.specs.Lists.{total}
@@ -84,6 +86,39 @@ module _ (size : List ℕ → ℕ) where
       let left = drop (size l) l in
       more_whole l ∙ simp (ne_eqb _ _ m, ne_eqb _ _ n) (whole_fuel (length l) (length left) left (shorter (length l) l (omega arith) n) (omega arith))
 
+  -- the item of k bytes that stands at a place
+  pub record Step (s : List ℕ) (at k : ℕ) : Type 0 where
+    pub same : size (drop at s) ≡ k
+    pub some : size (drop at s) ≡ 0 → ⊥
+    pub onward : 0 < k
+    pub fits : at + k ≤ length s
+    pub next : drop (size (drop at s)) (drop at s) ≡ drop (at + k) s
+
+  module _ (x : Sizes size) (s : List ℕ) (at : ℕ) where
+    -- it does where that is the size there
+    pub step : {k : ℕ} → Some k ≡ sized (size (drop at s)) → Step s at k
+    step {k} e =
+        let f = sized_some e in
+        record {
+          same = f.same;
+          some = f.some;
+          onward = omega (arith, f.same, f.some);
+          fits = omega (arith, f.same, f.some, x.fits (drop at s), length-drop at s);
+          next = rw f.same (drop-drop k at s);
+        }
+
+    -- bytes are items to their end from a place on just where they are from the place after the item there
+    pub whole_step : {k : ℕ} → Some k ≡ sized (size (drop at s)) → whole size (drop (at + k) s) ≡ whole size (drop at s)
+    whole_step e = let y = step e in sym (whole_next x (drop at s) y.some ∙ ap (whole size) y.next)
+
+    -- where no item stands they are just where nothing is left
+    pub whole_stop : at ≤ length s → None ≡ sized (size (drop at s)) → eqb at (length s) ≡ whole size (drop at s)
+    whole_stop h e = go (ℕ_discrete at (length s))
+      where
+        go : Dec (at ≡ length s) → eqb at (length s) ≡ whole size (drop at s)
+        go (yes z) = eq-eqb _ _ z ∙ sym (whole_end (drop at s) (simp length-drop (omega arith)))
+        go (no n) = ne_eqb _ _ n ∙ sym (whole_bad (drop at s) (simp length-drop (omega arith)) (sized_none e))
+
   module _ {A : Type 0} (item : List ℕ → A) where
     end_items : (f : ℕ) (l : List ℕ) → size l ≡ 0 → items_in size item f l ≡ []
     unfolding items_in
@@ -114,6 +149,12 @@ module _ (size : List ℕ → ℕ) where
         let left = drop (size l) l in
         items_fuel s (length l) (suc (length l)) l (omega arith) (omega arith)
         ∙ simp (ne_eqb _ _ n, items_fuel s (length l) (length left) left (shorter (length l) l (omega arith) n) (omega arith))
+
+    -- the same, by the size that is there and the part from it to the end
+    pub items_taken : Sizes size → (l : List ℕ) {k : ℕ} → Some k ≡ sized (size l) → items size item l ≡ item l ∷ items size item (take (length l - k) (drop k l))
+    items_taken s l {k} e =
+        let f = sized_some e in
+        rw (take_rest l k) (items_next s l f.some ∙ rw f.same refl)
 
 module _ {A : Type 0} (size : List ℕ → ℕ) (item : List ℕ → A) (s : Sizes size) (cost : A → ℕ) (k : ℕ)
     (each : (l : List ℕ) → (size l ≡ 0 → ⊥) → cost (item l) ≤ k * size l) where

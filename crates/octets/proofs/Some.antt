@@ -5,6 +5,8 @@ use native.Mathlib.Omega.{arith}
 use mathlib.Core.Path.{◌≡◌, refl}
 use mathlib.Core.Bool.{Bool, true, false}
 use mathlib.Core.List.{List, [], ◌∷◌, ◌++◌}
+use Rattle.std.specs.Prelude.{◌||◌}
+use Rattle.std.specs.List.{list_any}
 use lib.ListN.{length, get_or, drop}
 use lib.Seq.{drop-cons}
 use Rattle.octets.specs.Choice.{pick}
@@ -66,6 +68,16 @@ module _ {A : Type 0} (test : A → Bool) where
   pub passes_later : (a : A) (xs : List A) → test a ≡ false → some_passes test (a ∷ xs) ≡ some_passes test xs
   unfolding some_passes
   passes_later a xs e = rw e refl
+
+  -- it is the library's test
+  pub any_passes : (xs : List A) → list_any test xs ≡ some_passes test xs
+  unfolding some_passes
+  any_passes [] = refl
+  any_passes (a ∷ xs) = rw (any_passes xs) (go (test a))
+    where
+      go : (b : Bool) → (b || some_passes test xs) ≡ pick b true (some_passes test xs)
+      go true = refl
+      go false = refl
 
   -- of two lists, one after the other
   pub passes_append : (xs ys : List A) → some_passes test (xs ++ ys) ≡ pick (some_passes test xs) true (some_passes test ys)

@@ -1,10 +1,7 @@
 -- Byte strings that are the same: of one length, and byte by byte.
-use Rattle.std.specs.Prelude.{ℕ, Bool, true, false, List, [], ◌∷◌, eqb}
-use Rattle.octets.specs.Choice.{pick}
+use Rattle.std.specs.Prelude.{Bool, ℕ, List}
+use Rattle.std.specs.Str.{bytes_eq}
 
 -- whether they are
 unfoldable pub same : List ℕ → List ℕ → Bool
-same [] [] = true
-same [] (b ∷ bs) = false
-same (a ∷ as') [] = false
-same (a ∷ as') (b ∷ bs) = pick (eqb a b) (same as' bs) false
+same = bytes_eq

@@ -11,18 +11,13 @@ ghost use Rattle.octets.specs.Decimal.{decimal};
 
 const WIDEST_NUMBER: usize = 4;
 
-const LAST_PLACE: usize = 18446744073709551615;
-
 const ZERO: u32 = b'0' as u32;
 
 // The byte at a place, 0 past the end.
 fn octet(s: &[u8], at: usize) -> u32
     ensures { (result ≡ get_or s.now at 0) × (result < 256) }
 {
-    if at < s.len() {
-        return s[at] as u32;
-    }
-    0
+    s.get(at).copied().map_or(0, u32::from)
 }
 
 // The number in the width bytes at a place, the most significant first. A byte past the end reads 0, and so does a number of
@@ -37,10 +32,8 @@ pub fn number(s: &[u8], at: usize, width: usize) -> u32
         return 0;
     }
     let mut n: u32 = 0;
-    let mut i: usize = 0;
-    while i < width {
+    for i in 0..width {
         n = n * 256 + octet(s, at + i);
-        i += 1;
     }
     n
 }
@@ -49,41 +42,23 @@ pub fn number(s: &[u8], at: usize, width: usize) -> u32
 pub fn part(s: &[u8], start: usize, len: usize) -> &[u8]
     ensures { result.now ≡ part_at s.now start len }
 {
-    if s.len() <= start {
-        return &s[..0];
-    }
-    if s.len() - start <= len {
-        return &s[start..];
-    }
-    let end = start + len;
-    &s[start..end]
+    let tail = rest(s, start);
+    &tail[..len.min(tail.len())]
 }
 
 // What a slice holds from a place on.
 pub fn rest(s: &[u8], from: usize) -> &[u8]
     ensures { result.now ≡ drop from s.now }
 {
-    if s.len() <= from {
-        return &s[..0];
-    }
-    &s[from..]
+    &s[from.min(s.len())..]
 }
 
 // Whether two byte strings are the same.
+#[tactic(auto, unfolding(crate::specs::Equal::same))]
 pub fn same(a: &[u8], b: &[u8]) -> bool
     ensures { result ≡ same a.now b.now }
 {
-    if a.len() != b.len() {
-        return false;
-    }
-    let mut i = 0;
-    while i < a.len() {
-        if a[i] != b[i] {
-            return false;
-        }
-        i += 1;
-    }
-    true
+    a == b
 }
 
 // Writes a byte where the buffer reaches that far, and answers the next place: a run over an empty buffer measures.
@@ -92,12 +67,8 @@ pub fn put(out: &mut [u8], at: usize, b: u8) -> usize
 {
     if at < out.len() {
         out[at] = b;
-        return at + 1;
     }
-    if at == LAST_PLACE {
-        return at;
-    }
-    at + 1
+    at.saturating_add(1)
 }
 
 // Writes bytes one after another.
@@ -105,10 +76,8 @@ pub fn put_bytes(out: &mut [u8], at: usize, bytes: &[u8]) -> usize
     ensures { Written out.old at bytes.now out.new result }
 {
     let mut place = at;
-    let mut i = 0;
-    while i < bytes.len() {
-        place = put(out, place, bytes[i]);
-        i += 1;
+    for b in bytes {
+        place = put(out, place, *b);
     }
     place
 }
@@ -117,12 +86,10 @@ pub fn put_bytes(out: &mut [u8], at: usize, bytes: &[u8]) -> usize
 fn put_pair(out: &mut [u8], at: usize, a: u8, b: u8) -> usize
     ensures { Written out.old at (a ∷ b ∷ []) out.new result }
 {
-    if 2 <= out.len() {
-        if at <= out.len() - 2 {
-            out[at] = a;
-            out[at + 1] = b;
-            return at + 2;
-        }
+    if 2 <= out.len() && at <= out.len() - 2 {
+        out[at] = a;
+        out[at + 1] = b;
+        return at + 2;
     }
     let next = put(out, at, a);
     put(out, next, b)

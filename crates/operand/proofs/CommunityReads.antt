@@ -3,9 +3,8 @@ use Prim.Native.Nat.{ℕ, ◌≤◌, ◌<◌}
 use mathlib.Core.Path.{◌≡◌, sym, ap, ◌∙◌}
 use mathlib.Core.List.{List}
 use lib.ListN.{length, drop}
-use borrow.Author.Tests.{ne_eqb}
+use Rattle.std.specs.Prelude.{Option, None, Some}
 use Rattle.names.specs.Tables.{found}
-use Rattle.names.specs.Names.{named_code}
 use Rattle.communities.specs.Names.{community_names}
 use Rattle.aspath.specs.declared.Item.TheVariants.{Number}
 use Rattle.token.specs.Next.{is_letter, run_end, part}
@@ -25,19 +24,19 @@ use Rattle.operand.proofs.PartedPlaces.{one_moves}
 use Rattle.operand.proofs.PatternReads.{none_at, one_at}
 
 -- the letters from a place on, and the community of that name
-module _ (s : List ℕ) (at r : ℕ) {end : ℕ} (e : end ≡ run_end is_letter s at) (n : named_code r ≡ found community_names (part s at end)) where
-  named : named_code r ≡ found community_names (cut is_letter (drop at s)).value
-  named = n ∙ ap (found community_names) (run_taken is_letter s at e)
+module _ (s : List ℕ) (at : ℕ) {end : ℕ} (e : end ≡ run_end is_letter s at) {o : Option ℕ} (n : o ≡ found community_names (part s at end)) where
+  named : found community_names (cut is_letter (drop at s)).value ≡ o
+  named = sym (n ∙ ap (found community_names) (run_taken is_letter s at e))
 
   -- they are no name
-  pub name_missing : r ≡ 0 → ReadAt name_read s at word_limit Unread
+  pub name_missing : o ≡ None → ReadAt name_read s at word_limit Unread
   unfolding name_read
-  name_missing z = read_none name_read s at word_limit (rw (sym named, z))
+  name_missing z = read_none name_read s at word_limit (rw (named, z))
 
   -- they are one
-  pub name_here : (r ≡ 0 → ⊥) → at ≤ length s → r < word_limit → ReadAt name_read s at word_limit (Numeral r end)
+  pub name_here : {r : ℕ} → o ≡ Some r → at ≤ length s → r < word_limit → ReadAt name_read s at word_limit (Numeral r end)
   unfolding name_read
-  name_here f h b = read_some name_read s at word_limit r end (rw (sym named, ne_eqb r 0 f, run_left is_letter s at e)) (rw e (end_within is_letter s at h)) b
+  name_here {r} z h b = read_some name_read s at word_limit r end (rw (named, z, run_left is_letter s at e)) (rw e (end_within is_letter s at h)) b
 
 -- a community as an item
 module _ {s : List ℕ} {at : ℕ} {n : Numbers} (x : ReadAt community_read s at word_limit n) where

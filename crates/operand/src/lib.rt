@@ -11,7 +11,6 @@ ghost use Rattle.token.specs.Texts.{text_limit};
 ghost use Rattle.operand.specs.Fronts.{wholly};
 ghost use Rattle.operand.specs.Decimals.{byte_limit, word_limit, is_digit, number, numeral, left_at, value_of, ReadAt};
 ghost use Rattle.operand.specs.AsNumbers.{as_limit, as_number, as_numeral};
-ghost use Rattle.names.specs.Names.{named_code};
 ghost use Rattle.operand.specs.Addresses.{part_read, network_read, AddressAt};
 ghost use Rattle.operand.specs.Peers.{behind_address};
 ghost use Rattle.operand.specs.Parted.{PartedAt};
@@ -23,7 +22,7 @@ ghost use Rattle.operand.specs.Tests.{meaning, operand_meaning, following_meant,
 
 use aspath::Item;
 use network::Relation;
-use program::Fields;
+use program::{Fields, Kind};
 
 // The value of a byte is below it: a code, or a part of an address.
 const BYTE_LIMIT: u64 = 256;
@@ -210,11 +209,11 @@ fn as_numeral(s: &[u8], at: usize) -> Number
 }
 
 // The record of a code: that of a name, or where there is none the number.
-fn code_record(kind: u32, named: u32, bytes: &[u8]) -> Meant
-    ensures { result ≡ code_meant kind (or_else (named_code named) (numeral byte_limit bytes.now)) }
+fn code_record(kind: u32, named: Option<u32>, bytes: &[u8]) -> Meant
+    ensures { result ≡ code_meant kind (or_else named (numeral byte_limit bytes.now)) }
 {
-    if named != names::UNNAMED {
-        return head(kind, 0, 0, named, 0);
+    if let Some(code) = named {
+        return head(kind, 0, 0, code, 0);
     }
     let Number::Read { value, end: _ } = numeral(bytes, 0, BYTE_LIMIT) else {
         return Meant::Broken;
@@ -294,7 +293,7 @@ fn network_record(bytes: &[u8], at: usize, relation: Relation, side: u32) -> Mea
     };
     let n = network::network_of(address, len);
     head(
-        program::NETWORK,
+        Kind::Network as u32,
         relation_code(relation),
         n.len,
         n.address,
@@ -322,7 +321,7 @@ fn peer_behind(bytes: &[u8], at: usize, address: u32) -> Meant
     ensures { result ≡ peer_meant (behind_address address (drop at bytes.now)) }
 {
     if bytes.len() <= at {
-        return head(program::PEER, 2, 0, address, 0);
+        return head(Kind::Peer as u32, 2, 0, address, 0);
     }
     if !token::is_blank(bytes[at]) {
         return Meant::Broken;
@@ -331,7 +330,7 @@ fn peer_behind(bytes: &[u8], at: usize, address: u32) -> Meant
     let Number::Read { value, end: _ } = as_numeral(bytes, next) else {
         return Meant::Broken;
     };
-    head(program::PEER, 3, 0, address, value)
+    head(Kind::Peer as u32, 3, 0, address, value)
 }
 
 // The record of a peer by its AS number alone.
@@ -341,7 +340,7 @@ fn peer_by_as(bytes: &[u8]) -> Meant
     let Number::Read { value, end: _ } = as_numeral(bytes, 0) else {
         return Meant::Broken;
     };
-    head(program::PEER, 1, 0, 0, value)
+    head(Kind::Peer as u32, 1, 0, 0, value)
 }
 
 fn peer(bytes: &[u8]) -> Meant
@@ -454,7 +453,7 @@ fn time(bytes: &[u8]) -> Meant
     else {
         return Meant::Broken;
     };
-    head(program::TIME, sign.code, 0, seconds, micros)
+    head(Kind::Time as u32, sign.code, 0, seconds, micros)
 }
 
 // The place after a byte that may stand at a place.
@@ -511,10 +510,9 @@ fn named_community(s: &[u8], at: usize) -> Number
     ensures { ReadAt name_read s.now at word_limit result }
 {
     let end = token::letters_end(s, at);
-    let value = communities::named(&s[at..end]);
-    if value == names::UNNAMED {
+    let Some(value) = communities::named(&s[at..end]) else {
         return Number::Missing;
-    }
+    };
     Number::Read { value, end }
 }
 
@@ -609,7 +607,7 @@ fn pattern(bytes: &[u8]) -> Meant
     }
     Meant::Head {
         fields: Fields {
-            kind: program::PATH,
+            kind: Kind::Path as u32,
             variant,
             count: items.count,
             a: 0,
@@ -636,7 +634,7 @@ fn communities_operand(bytes: &[u8]) -> Meant
     }
     Meant::Head {
         fields: Fields {
-            kind: program::COMMUNITIES,
+            kind: Kind::Communities as u32,
             variant: 0,
             count: items.count,
             a: 0,
@@ -652,21 +650,21 @@ fn item_fields(i: Item) -> Fields
 {
     match i {
         Item::Number(n) => Fields {
-            kind: program::ITEM,
+            kind: Kind::Item as u32,
             variant: 0,
             count: 0,
             a: n,
             b: 0,
         },
         Item::Other(n) => Fields {
-            kind: program::ITEM,
+            kind: Kind::Item as u32,
             variant: 1,
             count: 0,
             a: n,
             b: 0,
         },
         Item::Any => Fields {
-            kind: program::ITEM,
+            kind: Kind::Item as u32,
             variant: 2,
             count: 0,
             a: 0,
@@ -739,8 +737,12 @@ pub fn meaning(name: Name, bytes: &[u8]) -> Meant
         return Meant::Broken;
     }
     match name {
-        Name::MessageType => code_record(program::TYPE, names::type_named(bytes), bytes),
-        Name::Attribute => code_record(program::ATTRIBUTE, names::attribute_named(bytes), bytes),
+        Name::MessageType => code_record(Kind::MessageType as u32, names::type_named(bytes), bytes),
+        Name::Attribute => code_record(
+            Kind::Attribute as u32,
+            names::attribute_named(bytes),
+            bytes,
+        ),
         Name::Path => pattern(bytes),
         Name::Peer => peer(bytes),
         Name::Time => time(bytes),

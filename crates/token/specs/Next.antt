@@ -1,5 +1,5 @@
 -- The next token of a text from a place on, by positions.
-use Rattle.std.specs.Prelude.{ℕ, suc, ◌+◌, ◌-◌, ◌≤◌, Bool, true, false, not, List, [], ◌∷◌, length, get_or, take, drop, leb, eqb}
+use Rattle.std.specs.Prelude.{ℕ, suc, ◌+◌, ◌-◌, ◌≤◌, ◌≡◌, Bool, true, false, not, List, [], ◌∷◌, length, get_or, take, drop, leb, eqb}
 use Rattle.std.specs.Prelude.{Option, Some, None}
 use Rattle.octets.specs.Choice.{pick}
 use Rattle.token.specs.Texts.{allowed}
@@ -8,8 +8,6 @@ use Rattle.token.specs.Lexer.{Lexed, tokens, unclosed, between, lex, read}
 use Rattle.token.specs.declared.Sort.{Sort}
 use Rattle.token.specs.declared.Sort.TheVariants.{End, Open, Close, Bang, Word, Quoted, Unclosed}
 use Rattle.token.specs.declared.Lexeme.{Lexeme}
-use Rattle.token.specs.declared.Run.{Run}
-use Rattle.token.specs.declared.Run.TheVariants.{Blanks, Letters, Inner, Allowed}
 
 -- the tokens of an answer, none where a quote isn't closed
 unfoldable pub tokens_of : Lexed → List Placed
@@ -43,12 +41,9 @@ is_letter b = pick (eqb b 40) false (pick (eqb b 41) false (pick (eqb b 33) fals
 unfoldable pub is_inner : ℕ → Bool
 is_inner b = not (eqb b 39)
 
--- the bytes that a run is of
-abbrev pub is_in : Run → ℕ → Bool
-is_in Blanks = is_blank
-is_in Letters = is_letter
-is_in Inner = is_inner
-is_in Allowed = allowed
+-- what a function of a byte answers is what a test says
+abbrev pub Computes : (ℕ → Bool → Type 0) → (ℕ → Bool) → Type 0
+Computes answers test = (b : ℕ) (r : Bool) → answers b r → r ≡ test b
 
 -- how many bytes at the front pass a test, up to the first that doesn't
 unfoldable pub run : (ℕ → Bool) → List ℕ → ℕ

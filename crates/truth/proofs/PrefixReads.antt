@@ -42,11 +42,6 @@ module _ (r : Relation) (operand : Network) where
 -- ---- a network's test
 
 module _ (f : Fields) (s : List ℕ) (p : Parts) where
-  -- a variant over 3 is none
-  pub no_relation : 3 < f.variant → network_test f (message_at s p) ≡ false
-  no_relation h =
-      simp (ne_eqb f.variant 0 (λ e. omega arith), ne_eqb f.variant 1 (λ e. omega arith), ne_eqb f.variant 2 (λ e. omega arith), ne_eqb f.variant 3 (λ e. omega arith))
-
   -- by the side
   module _ {r : Relation} (known : relation_is f.variant ≡ Some r) where
     pub on_announced : f.b ≡ 1 → network_test f (message_at s p) ≡ some_prefix r (operand_of f) (networks_of (part_of s p.announced))
@@ -62,6 +57,3 @@ module _ (f : Fields) (s : List ℕ) (p : Parts) where
         ≡ pick (some_prefix r (operand_of f) (networks_of (part_of s p.announced))) true (some_prefix r (operand_of f) (networks_of (part_of s p.withdrawn)))
     unfolding message_at some_prefix
     on_either e = rw (known, e) (passes_append _ (networks_of (part_of s p.announced)) (networks_of (part_of s p.withdrawn)))
-
-    pub on_none : (f.b ≡ 1 → ⊥) → (f.b ≡ 2 → ⊥) → (f.b ≡ 0 → ⊥) → network_test f (message_at s p) ≡ false
-    on_none g h k = simp (known, ne_eqb _ _ g, ne_eqb _ _ h, ne_eqb _ _ k)

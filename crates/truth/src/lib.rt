@@ -1,7 +1,7 @@
 // Whether a test is true of a message.
 #![tactic(auto)]
 
-ghost use Rattle.std.specs.Prelude.{◌≡◌, true, ◌+◌, ◌*◌, ◌≤◌, drop, Some};
+ghost use Rattle.std.specs.Prelude.{◌≡◌, true, ◌+◌, ◌*◌, drop, Some};
 ghost use Rattle.network.specs.Networks.{network_in};
 ghost use Rattle.aspath.specs.Members.{members};
 ghost use Rattle.aspath.specs.Wire.{width_bytes, members_of};
@@ -26,10 +26,35 @@ use aspath::{Cursor, Item, Next, Width};
 use attributes::Found;
 use message::Parts;
 use network::{Network, Relation};
-use program::Fields;
+use program::{Fields, Kind};
 
 // A second in microseconds, as times are compared.
 const SECOND: u64 = program::SECOND as u64;
+
+// The variants of a peer.
+const BY_AS: u32 = 1;
+
+const BY_ADDRESS: u32 = 2;
+
+const BY_BOTH: u32 = 3;
+
+// The variants of a time.
+const EQUAL: u32 = 0;
+
+const BELOW: u32 = 1;
+
+const AT_MOST: u32 = 2;
+
+const ABOVE: u32 = 3;
+
+const AT_LEAST: u32 = 4;
+
+// The sides of a network, in B.
+const EITHER: u32 = 0;
+
+const ANNOUNCED: u32 = 1;
+
+const WITHDRAWN: u32 = 2;
 
 // Whether an attribute of a section has a code, which is one byte.
 fn has_code(section: &[u8], code: u32) -> bool
@@ -48,19 +73,12 @@ fn has_code(section: &[u8], code: u32) -> bool
 fn same_peer(f: Fields, address: u32, number: u32) -> bool
     ensures { result ≡ peer_test f address number }
 {
-    if f.variant == 1 {
-        return number == f.b;
+    match f.variant {
+        BY_AS => number == f.b,
+        BY_ADDRESS => address == f.a,
+        BY_BOTH => address == f.a && number == f.b,
+        _ => false,
     }
-    if f.variant == 2 {
-        return address == f.a;
-    }
-    if f.variant != 3 {
-        return false;
-    }
-    if address != f.a {
-        return false;
-    }
-    number == f.b
 }
 
 // A time in microseconds.
@@ -76,26 +94,25 @@ fn in_time(f: Fields, seconds: u32) -> bool
 {
     let time = micros(seconds, 0);
     let operand = micros(f.a, f.b);
-    let comparison = f.variant;
-    match comparison {
-        0 => time == operand,
-        1 => time < operand,
-        2 => time <= operand,
-        3 => operand < time,
-        4 => operand <= time,
+    match f.variant {
+        EQUAL => time == operand,
+        BELOW => time < operand,
+        AT_MOST => time <= operand,
+        ABOVE => operand < time,
+        AT_LEAST => operand <= time,
         _ => false,
     }
 }
 
-fn relation_of(variant: u32) -> Relation
-    requires { variant ≤ 3 }
-    ensures { relation_is variant ≡ Some result }
+fn relation_of(variant: u32) -> Option<Relation>
+    ensures { result ≡ relation_is variant }
 {
     match variant {
-        0 => Relation::Exact,
-        1 => Relation::Supernet,
-        2 => Relation::Subnet,
-        _ => Relation::Related,
+        0 => Some(Relation::Exact),
+        1 => Some(Relation::Supernet),
+        2 => Some(Relation::Subnet),
+        3 => Some(Relation::Related),
+        _ => None,
     }
 }
 
@@ -117,33 +134,26 @@ fn some_prefix(section: &[u8], relation: Relation, operand: Network) -> bool
     false
 }
 
-// Whether some prefix of the operand's side does: B is 0 for either, 1 for announced, 2 for withdrawn.
+// Whether some prefix of the operand's side does.
 fn has_prefix(f: Fields, record: &[u8], parts: Parts) -> bool
     ensures { result ≡ network_test f (message_at «record».now parts) }
 {
-    if program::LAST_RELATION < f.variant {
+    let Some(relation) = relation_of(f.variant) else {
         return false;
-    }
-    let relation = relation_of(f.variant);
+    };
     let operand = Network {
         address: f.a,
         len: f.count,
     };
     let announced = message::part_of(record, parts.announced);
     let withdrawn = message::part_of(record, parts.withdrawn);
-    if f.b == 1 {
-        return some_prefix(announced, relation, operand);
+    match f.b {
+        EITHER => some_prefix(announced, relation, operand)
+            || some_prefix(withdrawn, relation, operand),
+        ANNOUNCED => some_prefix(announced, relation, operand),
+        WITHDRAWN => some_prefix(withdrawn, relation, operand),
+        _ => false,
     }
-    if f.b == 2 {
-        return some_prefix(withdrawn, relation, operand);
-    }
-    if f.b != 0 {
-        return false;
-    }
-    if some_prefix(announced, relation, operand) {
-        return true;
-    }
-    some_prefix(withdrawn, relation, operand)
 }
 
 // The item at a place where one stands.
@@ -265,16 +275,15 @@ fn matches(f: Fields, behind: &[u8], path: &[u8], width: Width) -> bool
 fn true_of_path(f: Fields, behind: &[u8], path: &[u8], width: Width) -> bool
     ensures { result ≡ path_test f behind.now (members_of (width_bytes width) path.now) }
 {
-    if f.kind == program::PATH {
-        return matches(f, behind, path, width);
+    let Some(kind) = program::kind_of(f.kind) else {
+        return false;
+    };
+    match kind {
+        Kind::Path => matches(f, behind, path, width),
+        Kind::Loops => aspath::loops(path, width),
+        Kind::Bogon => aspath::has_bogon(path, width),
+        _ => false,
     }
-    if f.kind == program::LOOPS {
-        return aspath::loops(path, width);
-    }
-    if f.kind == program::BOGON {
-        return aspath::has_bogon(path, width);
-    }
-    false
 }
 
 // Whether it is true of the AS_PATH of a section: without one it is false.
@@ -335,29 +344,25 @@ pub fn holds(program: &[u8], at: usize, record: &[u8], parts: Parts) -> bool
     ensures { result ≡ truth_at (message_at «record».now parts) program.now at }
 {
     let f = program::fields_at(program, at);
-    if f.kind == program::TYPE {
-        return parts.code == f.a;
-    }
-    if f.kind == program::PEER {
-        return same_peer(f, parts.address, parts.peer);
-    }
-    if f.kind == program::TIME {
-        return in_time(f, parts.seconds);
+    let Some(kind) = program::kind_of(f.kind) else {
+        return false;
+    };
+    match kind {
+        Kind::MessageType => return parts.code == f.a,
+        Kind::Peer => return same_peer(f, parts.address, parts.peer),
+        Kind::Time => return in_time(f, parts.seconds),
+        _ => {}
     }
     if parts.code != message::UPDATE {
         return false;
     }
-    if f.kind == program::NETWORK {
-        return has_prefix(f, record, parts);
-    }
     let section = message::part_of(record, parts.attributes);
-    if f.kind == program::ATTRIBUTE {
-        return has_code(section, f.a);
-    }
     let behind = octets::rest(octets::rest(program, at), program::RECORD_SIZE);
     let width = parts.width;
-    if f.kind == program::COMMUNITIES {
-        return has_communities(f, behind, section, width);
+    match kind {
+        Kind::Network => has_prefix(f, record, parts),
+        Kind::Attribute => has_code(section, f.a),
+        Kind::Communities => has_communities(f, behind, section, width),
+        _ => true_of_section(f, behind, section, width),
     }
-    true_of_section(f, behind, section, width)
 }

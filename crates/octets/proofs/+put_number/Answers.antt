@@ -4,7 +4,7 @@ use mathlib.Core.Path.{◌≡◌}
 use mathlib.Core.List.{List, [], ◌∷◌}
 use lib.ListN.{length}
 use lib.Dec.{leb}
-use borrow.Author.Tests.{le-leb, lt-leb}
+use borrow.Author.Tests.{le-leb}
 use Rattle.octets.specs.Choice.{pick}
 use Rattle.octets.specs.Numbers.{widest_number, bytes_of}
 use Rattle.octets.specs.Writes.{last_place, Written}
@@ -27,11 +27,6 @@ pub returns-then-width-eq0 : goal.returns-then-width-eq0
 returns-then-width-eq0 t c = let a = c.args in
     let h : length a.out.now ≤ last_place = omega arith in
     none_written a.out.now a.at a.width a.n c.if-width-eq0.true (omega arith) h
-
-pub returns-then-width-gt-WIDEST_NUMBER : goal.returns-then-width-gt-WIDEST_NUMBER
-returns-then-width-gt-WIDEST_NUMBER t c = let a = c.args in
-    let h : length a.out.now ≤ last_place = omega arith in
-    rw (lt-leb _ _ c.if-width-gt-WIDEST_NUMBER.true) (nothing a.out.now a.at (omega arith) h)
 
 pub returns : goal.returns
 returns t c = let s = c in

@@ -1,12 +1,8 @@
 -- `octets::number` meets its contract. The loop's invariant: n is the number in the first i bytes. Assumes nothing.
-use Prim.Native.Nat.{◌≤◌, ◌<◌, ◌-◌, ◌^◌}
+use Prim.Native.Nat.{◌<◌, ◌^◌}
 use mathlib.Core.Path.{◌≡◌}
-use lib.ListN.{length}
-use Rattle.octets.specs.Numbers.{widest_number, number_at}
+use Rattle.octets.specs.Numbers.{number_at}
 use Rattle.octets.proofs.number.Given as goal
 
 abbrev pub invariant-loop-i : goal.invariant-loop-i
-invariant-loop-i l = (l.width ≤ widest_number) × (l.at < length l.s) × (l.i ≤ l.width) × (l.n ≡ number_at l.s l.at l.i) × (l.n < 256 ^ l.i)
-
-abbrev pub decreases-loop-i : goal.decreases-loop-i
-decreases-loop-i l = l.width - l.i
+invariant-loop-i l = (l.n ≡ number_at l.s l.at l.i) × (l.n < 256 ^ l.i)

@@ -1,11 +1,7 @@
 -- `octets::put_bytes` meets its contract. The loop's invariant: the bytes from `i` on are left to write. Assumes nothing.
-use Prim.Native.Nat.{◌-◌, ◌≤◌}
-use lib.ListN.{length, drop}
+use lib.ListN.{drop}
 use Rattle.octets.proofs.Writes.{Midst}
 use Rattle.octets.proofs.put_bytes.Given as goal
 
-abbrev pub invariant-loop-i : goal.invariant-loop-i
-invariant-loop-i l = (l.i ≤ length l.bytes) × Midst l.initial.out l.at l.bytes l.out l.place (drop l.i l.bytes)
-
-abbrev pub decreases-loop-i : goal.decreases-loop-i
-decreases-loop-i l = length l.bytes - l.i
+abbrev pub invariant-loop-b : goal.invariant-loop-b
+invariant-loop-b l = Midst l.initial.out l.at l.bytes l.out l.place (drop l.b-index l.bytes)

@@ -6,13 +6,10 @@ use Rattle.operand.proofs.CommunityReads.{name_missing, name_here}
 use Rattle.operand.proofs.named_community.Goals as goal
 
 pub slice_bounds-named-end : goal.slice_bounds-named-end
-slice_bounds-named-end c = let a = c.args in
-    omega (arith, end_within is_letter a.s.now a.at c.requires)
+slice_bounds-named-end c = omega (arith, end_within is_letter c.args.s.now c.args.at c.requires)
 
-pub returns-then-value-eq-UNNAMED : goal.returns-then-value-eq-UNNAMED
-returns-then-value-eq-UNNAMED c = let a = c.args in
-    name_missing a.s.now a.at c.named-value.result c.letters_end-end.ensures c.named-value.ensures c.if-value-eq-UNNAMED.true
+pub returns-in_default : goal.returns-in_default
+returns-in_default c = name_missing c.args.s.now c.args.at c.letters_end-end.ensures c.named.ensures c.in_default.is
 
 pub returns : goal.returns
-returns c = let a = c.args in
-    name_here a.s.now a.at c.named-value.result c.letters_end-end.ensures c.named-value.ensures c.if-value-eq-UNNAMED.false c.requires (omega arith)
+returns c = name_here c.args.s.now c.args.at c.letters_end-end.ensures c.named.ensures c.in-Some.is c.requires (omega arith)

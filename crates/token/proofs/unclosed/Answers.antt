@@ -4,6 +4,7 @@ use native.Mathlib.Omega.{arith}
 use mathlib.Core.Path.{◌≡◌, refl, sym, ap, ◌∙◌}
 use mathlib.Core.List.{List}
 use lib.ListN.{length}
+use Rattle.std.proofs.Common.{rules}
 use Rattle.token.specs.Next.{next_at}
 use Rattle.token.specs.declared.Lexeme.{Lexeme}
 use Rattle.token.specs.declared.Sort.TheVariants as sorts
@@ -17,22 +18,23 @@ goes_on text at e h n = rw e (search_on text at h (λ k. n (ap (λ (x : Lexeme).
 pub loop-at-init : goal.loop-at-init
 loop-at-init c = (omega arith, refl)
 
-pub returns-in-Unclosed : goal.returns-in-Unclosed
-returns-in-Unclosed c = let text = c.args.text.now in
+pub returns-then-eq : goal.returns-then-eq
+returns-then-eq c = let text = c.args.text.now in
     let l = c.loop-at in
     let e = c.next-found.ensures in
-    ap (λ (x : Lexeme). x.start) e ∙ (search_found text l.at (sym (ap (λ (x : Lexeme). x.sort) e) ∙ c.in-Unclosed.is) ∙ l.invariant.1)
+    let k : c.next-found.result.sort ≡ sorts.Unclosed = search rules in
+    ap (λ (x : Lexeme). x.start) e ∙ (search_found text l.at (sym (ap (λ (x : Lexeme). x.sort) e) ∙ k) ∙ l.invariant.1)
 
 pub loop-at-smaller : goal.loop-at-smaller
 loop-at-smaller c = let text = c.args.text.now in
     let l = c.loop-at in
-    let s = goes_on text l.at c.next-found.ensures (omega arith) c.in_default.not-Unclosed in
+    let s = goes_on text l.at c.next-found.ensures (omega arith) (search rules) in
     omega arith
 
 pub loop-at-preserved : goal.loop-at-preserved
 loop-at-preserved c = let text = c.args.text.now in
     let l = c.loop-at in
-    let s = goes_on text l.at c.next-found.ensures (omega arith) c.in_default.not-Unclosed in
+    let s = goes_on text l.at c.next-found.ensures (omega arith) (search rules) in
     (s.within, s.same ∙ l.invariant.1)
 
 pub returns : goal.returns
