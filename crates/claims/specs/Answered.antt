@@ -1,19 +1,18 @@
 -- What `compile_and_judge` answers, as what compiling and judging answer; and what it leaves where compiling refuses.
 use Rattle.std.specs.Prelude.{ℕ, ◌≡◌, List}
 use Rattle.std.specs.Prelude.{Option, Some, None, Result, Ok, Err}
-use Rattle.filter.specs.declared.Compiled.TheVariants as compiled
+use Rattle.filter.specs.declared.Refused.{Refused}
 use Rattle.filter.specs.Functions.{Compiling, compiling_of, our_compiler}
 use Rattle.judge.specs.declared.Tally.{Tally}
 use Rattle.judge.specs.Functions.{Judging, judging_of, our_judge}
 use Rattle.claims.specs.declared.Judged.{Judged}
-use Rattle.claims.specs.declared.Refused.{Refused}
 use Rattle.claims.specs.Functions.{judged_with}
 use Rattle.claims.specs.DemandThree.{DemandThreeAt}
 
 -- what compiling says in an answer, with the program buffer afterwards
 unfoldable pub compiling_in : Result Judged Refused → List ℕ → Compiling
-compiling_in (Ok j) buffer = compiling_of (compiled.Program j.bytes) buffer
-compiling_in (Err r) buffer = compiling_of (compiled.Refused r.refusal r.place) buffer
+compiling_in (Ok j) buffer = compiling_of (Ok j.bytes) buffer
+compiling_in (Err r) buffer = compiling_of (Err r) buffer
 
 -- what judging does, with the line buffer and the tally afterwards; where compiling refuses, nothing is judged
 unfoldable pub judging_in : Result Judged Refused → List ℕ → Option Tally → Option Judging

@@ -5,21 +5,14 @@ ghost use Rattle.std.specs.Prelude.{◌≡◌};
 ghost use Rattle.judge.specs.Functions.{judging_of, our_judge};
 ghost use Rattle.claims.specs.Answered.{Claimed};
 
-use filter::Compiled;
-use judge::{Tally, Verdict};
+use filter::Refused;
+use judge::{Refusal, Tally, Verdict};
 
 // A text that compiles: the bytes of its program, and what judging a record with these answers.
 #[derive(Clone, Copy)]
 pub struct Judged {
     pub bytes: usize,
-    pub judged: Result<Verdict, judge::Refusal>,
-}
-
-// A text that isn't compiled: why, and where.
-#[derive(Clone, Copy)]
-pub struct Refused {
-    pub refusal: filter::Refusal,
-    pub place: usize,
+    pub judged: Result<Verdict, Refusal>,
 }
 
 // What compiling and judging answer, and the tally after them, where there is one.
@@ -35,7 +28,7 @@ fn judge_in(
     bytes: &[u8],
     lines: &mut [u8],
     counting: Option<Tally>,
-) -> (Result<Verdict, judge::Refusal>, Option<Tally>)
+) -> (Result<Verdict, Refusal>, Option<Tally>)
     ensures { judging_of result.0 lines.new result.1 ≡ our_judge program.now bytes.now lines.old counting }
 {
     let Some(tally) = counting else {
@@ -56,10 +49,14 @@ pub fn compile_and_judge(
     ensures { Claimed text.now program.old bytes.now lines.old
         counting result.answer program.new lines.new result.counting }
 {
-    let compiled = filter::compile(text, program);
-    match compiled {
-        Compiled::Program(size) => {
-            let (judged, counting) = judge_in(octets::part(program, 0, size), bytes, lines, counting);
+    match filter::compile(text, program) {
+        Ok(size) => {
+            let (judged, counting) = judge_in(
+                octets::part(program, 0, size),
+                bytes,
+                lines,
+                counting,
+            );
             Answered {
                 answer: Ok(Judged {
                     bytes: size,
@@ -68,8 +65,8 @@ pub fn compile_and_judge(
                 counting,
             }
         }
-        Compiled::Refused(refusal, place) => Answered {
-            answer: Err(Refused { refusal, place }),
+        Err(refused) => Answered {
+            answer: Err(refused),
             counting,
         },
     }
