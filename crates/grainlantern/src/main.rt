@@ -5,7 +5,7 @@ ghost use Rattle.std.specs.Prelude.{◌≡◌, ◌≤◌, length, MatchResult};
 ghost use Rattle.grainlantern.specs.Refusal.{refusal_text, RefusedAt};
 ghost use Rattle.grainlantern.specs.Output.{Lent, kept_lines, OfRun};
 
-use judge::{Judged, Tally};
+use judge::{Refusal, Tally, Verdict};
 use run::Ran;
 use std::fs;
 use std::io::Read;
@@ -101,13 +101,12 @@ fn refuse(rt: &HostRuntime, number: u32, place: u32)
 }
 
 // The lines to hand on for an answer: those of a record that is kept.
-fn kept_lines(judged: Judged, lines: &[u8]) -> &[u8]
+fn kept_lines(judged: Result<Verdict, Refusal>, lines: &[u8]) -> &[u8]
     ensures { result.now ≡ kept_lines judged lines.now }
 {
     match judged {
-        Judged::Kept { spent: _, bytes } => octets::part(lines, 0, bytes),
-        Judged::Dropped { spent: _ } => octets::part(lines, 0, 0),
-        Judged::Refused(_) => octets::part(lines, 0, 0),
+        Ok(Verdict::Kept { bytes, .. }) => octets::part(lines, 0, bytes),
+        Ok(Verdict::Dropped { .. }) | Err(_) => octets::part(lines, 0, 0),
     }
 }
 
