@@ -1,12 +1,10 @@
 -- Laws of the search among the prefixes of a section. Assumes nothing.
-use Prim.Native.Nat.{ℕ, ◌<◌}
-use native.Mathlib.Omega.{arith}
+use Prim.Native.Nat.{ℕ}
 use mathlib.Core.Path.{◌≡◌, refl, ap, ◌∙◌}
 use mathlib.Core.Bool.{true, false}
 use Rattle.std.specs.Prelude.{Some}
 use mathlib.Core.List.{List}
 use lib.ListN.{drop}
-use borrow.Author.Tests.{ne_eqb}
 use Rattle.octets.specs.Choice.{pick}
 use Rattle.octets.proofs.Some.{passes_none, passes_here, passes_later, passes_append}
 use Rattle.octets.proofs.Rows.{items_end, items_next}
