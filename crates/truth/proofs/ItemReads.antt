@@ -1,5 +1,5 @@
 -- Laws of the items at the front of a program's records, all of them or numbers alone. Assumes nothing.
-use Prim.Native.Nat.{ℕ, zero, suc, ◌≤◌, ◌<◌}
+use Prim.Native.Nat.{ℕ, zero, suc, ◌+◌, ◌-◌, ◌*◌, ◌≤◌, ◌<◌}
 use native.Mathlib.Nat.{lt_of_not-le}
 use native.Mathlib.Decide.{dec_le, ℕ_discrete}
 use native.Mathlib.Omega.{arith}
@@ -8,6 +8,7 @@ use mathlib.Core.Bool.{Bool, true, false}
 use Rattle.std.specs.Prelude.{Option, None, Some}
 use mathlib.Core.List.{List, [], ◌∷◌}
 use lib.ListN.{length, take, drop}
+use lib.Seq.{drop-drop}
 use lib.Dec.{eqb, leb, ltb, eqb-zero-suc, eqb-suc-suc}
 use borrow.Author.Tests.{lt-leb, le-leb, ne_eqb, eqb-true, leb-true}
 use Rattle.octets.specs.Choice.{both, onward, otherwise}
@@ -208,3 +209,11 @@ module _ {A : Type 0} {one : Record → Option A} {last : ℕ} (finds : Finds on
   -- where so many stand, one or more, the first is one
   pub next : {n : ℕ} (more : ℕ) (l : List ℕ) → n ≡ suc more → items_stand last n l ≡ true → Next one last n more l
   next more l e s = rw e (next_of more l (rw e at s))
+
+  -- and where n of them have been passed, the next is one
+  pub next_left : {n count : ℕ} (l : List ℕ) → n < count → items_stand last (count - n) l ≡ true → Next one last (count - n) (count - (n + 1)) l
+  next_left l h s = next _ l (omega arith) s
+
+-- the records after it
+pub passed_next : (n : ℕ) (l : List ℕ) → drop record_size (drop (record_size * n) l) ≡ drop (record_size * (n + 1)) l
+passed_next n l = drop-drop record_size (record_size * n) l ∙ ap (λ (k : ℕ). drop k l) (omega arith)

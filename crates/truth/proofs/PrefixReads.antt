@@ -19,24 +19,6 @@ use Rattle.program.specs.Layout.{relation_is, operand_of}
 use Rattle.truth.specs.Means.{some_prefix}
 use Rattle.truth.specs.Matching.{network_test}
 
-module _ (r : Relation) (operand : Network) where
-  module _ (l : List ℕ) where
-    -- no prefix stands at the front
-    pub some_end : prefix_size address_bits l ≡ 0 → some_prefix r operand (networks_of l) ≡ false
-    unfolding some_prefix
-    some_end z = rw (items_end (prefix_size address_bits) (network_of address_bits) l z) (passes_none _)
-
-    -- one that relates does
-    pub some_first : (prefix_size address_bits l ≡ 0 → ⊥) → relates r operand (network_of address_bits l) ≡ true → some_prefix r operand (networks_of l) ≡ true
-    unfolding some_prefix
-    some_first n h = rw (items_next (prefix_size address_bits) (network_of address_bits) (prefix_sizes address_bits) l n) (passes_here _ (network_of address_bits l) _ h)
-
-    -- one that doesn't
-    pub some_later : (prefix_size address_bits l ≡ 0 → ⊥) → relates r operand (network_of address_bits l) ≡ false
-        → some_prefix r operand (networks_of l) ≡ some_prefix r operand (networks_of (drop (prefix_size address_bits l) l))
-    unfolding some_prefix
-    some_later n h = ap (some_prefix r operand) (items_next (prefix_size address_bits) (network_of address_bits) (prefix_sizes address_bits) l n) ∙ passes_later _ (network_of address_bits l) _ h
-
 -- ---- a network's test
 
 module _ (f : Fields) (s : List ℕ) (p : Parts) where

@@ -5,8 +5,8 @@ ghost use Rattle.std.specs.Prelude.{◌≡◌, true, ◌+◌, ◌*◌, drop, Som
 ghost use Rattle.network.specs.Networks.{network_in};
 ghost use Rattle.aspath.specs.Members.{members};
 ghost use Rattle.aspath.specs.Wire.{width_bytes, members_of};
-ghost use Rattle.aspath.specs.Patterns.{matches_some};
-ghost use Rattle.aspath.specs.Cursors.{next_at};
+ghost use Rattle.aspath.specs.Patterns.{matches_here, matches_some};
+ghost use Rattle.aspath.specs.Cursors.{left};
 ghost use Rattle.communities.specs.Communities.{communities_of, holds_all};
 ghost use Rattle.attributes.specs.Attribute.{first_of, ask_path, ask_communities};
 ghost use Rattle.attributes.specs.Wire.{raws_of, codes};
@@ -19,13 +19,12 @@ ghost use Rattle.program.specs.Layout.{relation_is, is_start, is_end, fields_in,
 ghost use Rattle.program.specs.Checks.{last_variant, number_variant, is_item, items_stand};
 ghost use Rattle.truth.specs.Means.{if_any, some_prefix};
 ghost use Rattle.truth.specs.Records.{truth_at};
-ghost use Rattle.truth.specs.Matching.{peer_test, time_test, network_test, items_in, numbers_in, ends_at, matches_at, path_matches, path_test};
+ghost use Rattle.truth.specs.Matching.{peer_test, time_test, network_test, items_in, numbers_in, path_matches, path_test};
 ghost use Rattle.truth.specs.Matching.{communities_test};
 
-use aspath::{Cursor, Item, Next, Width};
-use attributes::Found;
+use aspath::{Item, Members, Width};
 use message::Parts;
-use network::{Network, Relation};
+use network::{Network, Networks, Relation};
 use program::{Fields, Kind};
 
 // A second in microseconds, as times are compared.
@@ -38,11 +37,7 @@ fn has_code(section: &[u8], code: u32) -> bool
     if program::CODE_LIMIT <= code {
         return false;
     }
-    let found = attributes::find(section, code as u8);
-    let Found::At { start: _, len: _ } = found else {
-        return false;
-    };
-    true
+    attributes::find(section, code as u8).is_some()
 }
 
 fn same_peer(f: Fields, address: u32, number: u32) -> bool
@@ -95,18 +90,7 @@ fn relation_of(variant: u32) -> Option<Relation>
 fn some_prefix(section: &[u8], relation: Relation, operand: Network) -> bool
     ensures { result ≡ some_prefix relation (network_in operand) (networks_of section.now) }
 {
-    let mut at = 0;
-    while at < section.len() {
-        let size = network::prefix_size(section, at);
-        if size == 0 {
-            return false;
-        }
-        if network::related(relation, operand, network::network_at(section, at)) {
-            return true;
-        }
-        at += size;
-    }
-    false
+    Networks(section).any(|prefix| network::related(relation, operand, prefix))
 }
 
 // Whether some prefix of the operand's side does.
@@ -137,86 +121,49 @@ fn item_at(records: &[u8], at: usize) -> Item
     ensures { decode (drop at records.now) ≡ Some (item result) }
 {
     let f = program::fields_at(records, at);
-    if f.variant == 0 {
-        return Item::Number(f.a);
-    }
-    if f.variant == 1 {
-        return Item::Other(f.a);
-    }
-    Item::Any
-}
-
-// Whether no member stands at a cursor.
-fn at_end(path: &[u8], c: Cursor, width: Width) -> bool
-    ensures { result ≡ ends_at (next_at (width_bytes width) path.now c) }
-{
-    let next = aspath::member_at(path, c, width);
-    match next {
-        Next::Member(_, _) => false,
-        Next::End => true,
+    match f.variant {
+        0 => Item::Number(f.a),
+        1 => Item::Other(f.a),
+        _ => Item::Any,
     }
 }
 
-// Whether the items match members from a cursor on, up to the last where end.
-fn matches_here(
-    records: &[u8],
-    count: usize,
-    end: bool,
-    path: &[u8],
-    from: Cursor,
-    width: Width,
-) -> bool
+// Whether the items match the members that are left, up to the last where end.
+fn matches_here(records: &[u8], count: u32, end: bool, from: Members) -> bool
     requires { items_stand last_variant count records.now ≡ true }
-    ensures { result ≡ matches_at end (items_in count records.now) (width_bytes width) path.now from }
+    ensures { result ≡ matches_here end (items_in count records.now) (left from.entry) }
 {
-    let mut c = from;
-    let mut at = 0;
-    let mut left = count;
-    while 0 < left {
-        let next = aspath::member_at(path, c, width);
-        let Next::Member(n, after) = next else {
+    let mut path = from;
+    for n in 0..count {
+        let Some(member) = path.next() else {
             return false;
         };
-        if !aspath::takes(item_at(records, at), n) {
+        if !aspath::takes(item_at(records, program::RECORD_SIZE * n as usize), member) {
             return false;
         }
-        c = after;
-        at += program::RECORD_SIZE;
-        left -= 1;
     }
-    if end {
-        return at_end(path, c, width);
+    !end || path.next().is_none()
+}
+
+// Whether they do from one of them on.
+fn matches_some(records: &[u8], count: u32, end: bool, path: Members) -> bool
+    requires { items_stand last_variant count records.now ≡ true }
+    ensures { result ≡ matches_some end (items_in count records.now) (left path.entry) }
+{
+    let mut from = path;
+    while !matches_here(records, count, end, from) {
+        if from.next().is_none() {
+            return false;
+        }
     }
     true
-}
-
-// Whether they do from some cursor on.
-fn matches_some(records: &[u8], count: usize, end: bool, path: &[u8], width: Width) -> bool
-    requires { items_stand last_variant count records.now ≡ true }
-    ensures { result ≡ matches_some end (items_in count records.now) (members_of (width_bytes width) path.now) }
-{
-    let mut c = Cursor { at: 0, left: 0 };
-    loop {
-        if matches_here(records, count, end, path, c, width) {
-            return true;
-        }
-        let next = aspath::member_at(path, c, width);
-        let Next::Member(_, after) = next else {
-            break;
-        };
-        c = after;
-    }
-    false
 }
 
 // Whether a variant has `^`.
 fn is_start(variant: u32) -> bool
     ensures { result ≡ is_start variant }
 {
-    if variant == 1 {
-        return true;
-    }
-    variant == 3
+    matches!(variant, 1 | 3)
 }
 
 // Whether a variant has `$`.
@@ -231,19 +178,16 @@ fn matches(f: Fields, behind: &[u8], path: &[u8], width: Width) -> bool
     requires { f.kind ≡ path_kind }
     ensures { result ≡ path_matches f behind.now (members_of (width_bytes width) path.now) }
 {
-    if program::LAST_ENDS < f.variant {
+    if program::LAST_ENDS < f.variant || !program::follows(f, behind) {
         return false;
     }
-    if !program::follows(f, behind) {
-        return false;
-    }
-    let count = program::following(f) as usize;
+    let members = aspath::members_of(path, width);
+    let count = program::following(f);
     let end = is_end(f.variant);
     if is_start(f.variant) {
-        let first = Cursor { at: 0, left: 0 };
-        return matches_here(behind, count, end, path, first, width);
+        return matches_here(behind, count, end, members);
     }
-    matches_some(behind, count, end, path, width)
+    matches_some(behind, count, end, members)
 }
 
 // Whether a test of the path is true of one.
@@ -266,32 +210,25 @@ fn true_of_section(f: Fields, behind: &[u8], section: &[u8], width: Width) -> bo
     ensures { result ≡ if_any (first_of ask_path (attributes_of (width_bytes width) section.now))
         (λ segments. path_test f behind.now (members segments)) }
 {
-    let found = attributes::find(section, attributes::AS_PATH);
-    match found {
-        Found::At { start, len } => true_of_path(
-            f,
-            behind,
-            octets::part(section, start, len),
-            width,
-        ),
-        Found::Absent => false,
+    match attributes::find(section, attributes::AS_PATH) {
+        Some(body) => {
+            let path = octets::part(section, body.start, body.len);
+            true_of_path(f, behind, path, width)
+        }
+        None => false,
     }
 }
 
 // Whether each of so many numbers at the front of records stands in a body: the search ends at the first that is missing.
-fn holds_each(records: &[u8], count: usize, body: &[u8]) -> bool
+fn holds_each(records: &[u8], count: u32, body: &[u8]) -> bool
     requires { items_stand number_variant count records.now ≡ true }
     ensures { result ≡ holds_all (communities_of body.now) (numbers_in count records.now) }
 {
-    let mut at = 0;
-    let mut left = count;
-    while 0 < left {
-        let asked = program::fields_at(records, at);
+    for n in 0..count {
+        let asked = program::fields_at(records, program::RECORD_SIZE * n as usize);
         if !communities::has(body, asked.a) {
             return false;
         }
-        at += program::RECORD_SIZE;
-        left -= 1;
     }
     true
 }
@@ -302,15 +239,17 @@ fn has_communities(f: Fields, behind: &[u8], section: &[u8], width: Width) -> bo
     ensures { result ≡ if_any (first_of ask_communities (attributes_of (width_bytes width) section.now))
         (communities_test f behind.now) }
 {
-    let found = attributes::find(section, attributes::COMMUNITY);
-    let Found::At { start, len } = found else {
+    let Some(held) = attributes::find(section, attributes::COMMUNITY) else {
         return false;
     };
     if !program::follows(f, behind) {
         return false;
     }
-    let count = program::following(f) as usize;
-    holds_each(behind, count, octets::part(section, start, len))
+    holds_each(
+        behind,
+        program::following(f),
+        octets::part(section, held.start, held.len),
+    )
 }
 
 // Whether the test record at a place of a program is true of a message whose parts stand in a record. All tests but those of

@@ -6,6 +6,7 @@ ghost use Rattle.walk.specs.Steps.{step_of};
 
 use line::Wrote;
 use message::Decoded;
+use network::Networks;
 use walk::Step;
 
 // A run of three records: R, of 83 bytes; R32, of 84, which is R with a prefix of 32 bits; and R33, of 85, with one of 33.
@@ -75,12 +76,12 @@ fn tell_changed(rt: &HostRuntime, changes: &[(usize, u8)]) {
 
 // A prefix on its own.
 fn tell_network(rt: &HostRuntime, prefix: &[u8]) {
-    if network::prefix_size(prefix, 0) == 0 {
+    let Some(first) = Networks(prefix).next() else {
         say(rt, b"no prefix\n");
         return;
-    }
+    };
     let mut text = [0u8; 18];
-    let end = network::put_network(&mut text, 0, network::network_at(prefix, 0));
+    let end = network::put_network(&mut text, 0, first);
     say(rt, octets::part(&text, 0, end));
     say(rt, b"\n");
 }
