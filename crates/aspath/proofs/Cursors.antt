@@ -11,9 +11,8 @@ use lib.Dec.{eqb-suc-zero}
 use borrow.Author.Tests.{le-leb, lt-leb, eq-eqb, ne_eqb}
 use Rattle.octets.proofs.Numbers.{number_drop}
 use Rattle.octets.proofs.Rows.{items_end, items_next}
+use Rattle.std.specs.Prelude.{Option, Some, None}
 use Rattle.aspath.specs.declared.Cursor.{Cursor}
-use Rattle.aspath.specs.declared.Next.{Next}
-use Rattle.aspath.specs.declared.Next.TheVariants as next
 use Rattle.aspath.specs.Members.{Member, number, members, member_of}
 use Rattle.aspath.specs.Wire.{segment_size, segment_of, numbers_in, members_of}
 use Rattle.aspath.specs.Cursors.{numbers_from, remaining, next_at}
@@ -46,9 +45,9 @@ module _ (w : ℕ) (s : List ℕ) where
       simp (le-leb _ _ here, number_drop s at 0 w, add-zero, drop-drop, numbers_all n (at + w) rest)
 
   -- a step's answer as a list: its member and those after it
-  abbrev view : Next → List Member
-  view (next.Member n d) = member_of n ∷ remaining w s d
-  view next.End = []
+  abbrev view : Option (ℕ × Cursor) → List Member
+  view (Some x) = member_of x.0 ∷ remaining w s x.1
+  view None = []
 
   -- at the front of a segment
   start : (at : ℕ) → Dec (segment_size w (drop at s) ≡ 0) → view (next_at w s (record { at = at; left = 0 })) ≡ members_of w (drop at s)
@@ -89,11 +88,11 @@ module _ (w : ℕ) (s : List ℕ) where
           simp (eqb-suc-zero n, lt-leb _ _ (lt_of_not-le f), members_past w s (at + suc n * w) k)
 
   -- what a step's answer says of the members from a cursor on: one, and those from the next cursor on
-  pub member_view : {n : ℕ} {d : Cursor} (c : Cursor) → next_at w s c ≡ next.Member n d → remaining w s c ≡ member_of n ∷ remaining w s d
+  pub member_view : {x : ℕ × Cursor} (c : Cursor) → next_at w s c ≡ Some x → remaining w s c ≡ member_of x.0 ∷ remaining w s x.1
   member_view c e = sym (next_view c.at c.left) ∙ ap view e
 
   -- none
-  pub end_view : (c : Cursor) → next_at w s c ≡ next.End → remaining w s c ≡ []
+  pub end_view : (c : Cursor) → next_at w s c ≡ None → remaining w s c ≡ []
   end_view c e = sym (next_view c.at c.left) ∙ ap view e
 
   -- from the cursor where a path starts on, they are all of it

@@ -2,10 +2,11 @@
 #![tactic(auto)]
 
 ghost use Rattle.std.specs.Prelude.{◌≡◌, ◌≤◌, drop};
-ghost use Rattle.octets.specs.Rows.{whole};
+ghost use Rattle.std.specs.Iterator.{YieldsFirstBy, item_count};
+ghost use Rattle.octets.specs.Rows.{sized, whole};
 ghost use Rattle.aspath.specs.Members.{member_of};
-ghost use Rattle.aspath.specs.Wire.{width_bytes, widest, segment_size, members_of};
-ghost use Rattle.aspath.specs.Cursors.{next_at};
+ghost use Rattle.aspath.specs.Wire.{width_bytes, widest, known, segment_size, members_of};
+ghost use Rattle.aspath.specs.Cursors.{next_at, left};
 ghost use Rattle.aspath.specs.Loops.{has_loop};
 ghost use Rattle.aspath.specs.Bogons.{is_bogon, some_bogon};
 ghost use Rattle.aspath.specs.Patterns.{fits};
@@ -24,28 +25,24 @@ const TWO_OCTETS: usize = 2;
 const FOUR_OCTETS: usize = 4;
 
 // The width of an AS number.
-#[derive(Clone, Copy)]
+#[derive(Clone, Copy, Debug, PartialEq, Eq)]
 pub enum Width {
     Two,
     Four,
 }
 
 // A place in a body: at is the next byte, left the numbers left in the segment.
-#[derive(Clone, Copy)]
+#[derive(Clone, Copy, Debug, PartialEq, Eq)]
 pub struct Cursor {
     pub at: usize,
     pub left: usize,
 }
 
-// What stands at a cursor: a member of the path with the cursor after it, or nothing more.
-#[derive(Clone, Copy)]
-pub enum Next {
-    Member(u32, Cursor),
-    End,
-}
+// The place where a path starts.
+pub const START: Cursor = Cursor { at: 0, left: 0 };
 
 // An item behind a test's record: a number, any number but it, any at all.
-#[derive(Clone, Copy)]
+#[derive(Clone, Copy, Debug, PartialEq, Eq)]
 pub enum Item {
     Number(u32),
     Other(u32),
@@ -53,7 +50,7 @@ pub enum Item {
 }
 
 // A range of AS numbers.
-#[derive(Clone, Copy)]
+#[derive(Clone, Copy, Debug, PartialEq, Eq)]
 pub struct Range {
     pub low: u32,
     pub high: u32,
@@ -106,130 +103,121 @@ pub fn width_bytes(width: Width) -> usize
     }
 }
 
-// The bytes of the segment at a place, 0 where no whole one of a known type with a number or more stands there.
-fn sized_segment(s: &[u8], at: usize, width: usize) -> usize
-    requires { width ≤ widest }
-    ensures { result ≡ segment_size width (drop at s.now) }
+// Whether a segment's type is one of the two.
+fn known(of_type: u8) -> bool
+    ensures { result ≡ known of_type }
 {
-    if s.len() <= at {
-        return 0;
-    }
-    if s.len() - at < SEGMENT_HEADER {
-        return 0;
-    }
-    let of_type = s[at];
-    if of_type != SET {
-        if of_type != SEQUENCE {
-            return 0;
-        }
-    }
-    let count = s[at + 1] as usize;
-    if count == 0 {
-        return 0;
-    }
-    let size = SEGMENT_HEADER + count * width;
-    if s.len() - at < size {
-        return 0;
-    }
-    size
+    matches!(of_type, SET | SEQUENCE)
 }
 
-pub fn segment_size(s: &[u8], at: usize, width: Width) -> usize
-    ensures { result ≡ segment_size (width_bytes width) (drop at s.now) }
+// The bytes of the segment at a place, where a whole one of a known type with a number or more stands there.
+pub fn segment_size(s: &[u8], at: usize, width: Width) -> Option<usize>
+    ensures { result ≡ sized (segment_size (width_bytes width) (drop at s.now)) }
 {
-    let w = width_bytes(width);
-    sized_segment(s, at, w)
+    let here = octets::rest(s, at);
+    let [of_type, count, ..] = here else {
+        return None;
+    };
+    if !known(*of_type) || *count == 0 {
+        return None;
+    }
+    let size = SEGMENT_HEADER + *count as usize * width_bytes(width);
+    if here.len() < size {
+        return None;
+    }
+    Some(size)
 }
 
 // Whether a body is segments to its end.
 pub fn well_formed(s: &[u8], width: Width) -> bool
     ensures { result ≡ whole (segment_size (width_bytes width)) s.now }
 {
-    let w = width_bytes(width);
     let mut at = 0;
-    while at < s.len() {
-        let size = sized_segment(s, at, w);
-        if size == 0 {
-            return false;
-        }
+    while let Some(size) = segment_size(s, at, width) {
         at += size;
     }
-    true
+    at == s.len()
 }
 
-fn next_member(s: &[u8], c: Cursor, width: usize) -> Next
-    requires { width ≤ widest }
-    ensures { result ≡ next_at width s.now c }
-{
-    let at = c.at;
-    let left = c.left;
-    if left == 0 {
-        let size = sized_segment(s, at, width);
-        if size == 0 {
-            return Next::End;
-        }
-        let count = s[at + 1] as usize;
-        let n = octets::number(s, at + SEGMENT_HEADER, width);
-        return Next::Member(
-            n,
-            Cursor {
-                at: at + SEGMENT_HEADER + width,
-                left: count - 1,
-            },
-        );
-    }
-    if s.len() < at {
-        return Next::End;
-    }
-    if s.len() - at < width {
-        return Next::End;
-    }
-    let n = octets::number(s, at, width);
-    Next::Member(
-        n,
-        Cursor {
-            at: at + width,
-            left: left - 1,
-        },
-    )
-}
-
-// The member at a cursor, and the cursor after it. A path starts at the cursor 0, 0.
-pub fn member_at(s: &[u8], c: Cursor, width: Width) -> Next
+// The member at a cursor, and the cursor after it. A path starts at START.
+pub fn member_at(s: &[u8], c: Cursor, width: Width) -> Option<(u32, Cursor)>
     ensures { result ≡ next_at (width_bytes width) s.now c }
 {
     let w = width_bytes(width);
-    next_member(s, c, w)
+    if c.left == 0 {
+        segment_size(s, c.at, width)?;
+        let first = c.at + SEGMENT_HEADER;
+        let left = s[c.at + 1] as usize - 1;
+        return Some((
+            octets::number(s, first, w),
+            Cursor {
+                at: first + w,
+                left,
+            },
+        ));
+    }
+    if s.len() < c.at || s.len() - c.at < w {
+        return None;
+    }
+    Some((
+        octets::number(s, c.at, w),
+        Cursor {
+            at: c.at + w,
+            left: c.left - 1,
+        },
+    ))
+}
+
+// The members of a path from a place on.
+#[derive(Clone, Copy, Debug)]
+pub struct Members<'a> {
+    body: &'a [u8],
+    width: Width,
+    place: Cursor,
+}
+
+impl<'a> Iterator for Members<'a> {
+    type Item = u32;
+
+    ghost next_gives = { YieldsFirstBy member_of left };
+
+    ghost remaining = { item_count left };
+
+    fn next(&mut self) -> Option<u32> {
+        let (n, after) = member_at(self.body, self.place, self.width)?;
+        self.place = after;
+        Some(n)
+    }
+}
+
+// All of them.
+pub fn members_of(body: &[u8], width: Width) -> Members<'_>
+    ensures { left result ≡ members_of (width_bytes width) body.now }
+{
+    Members {
+        body,
+        width,
+        place: START,
+    }
 }
 
 // Whether some number returns after another: the search is left at the first loop found.
 pub fn loops(s: &[u8], width: Width) -> bool
     ensures { result ≡ has_loop (members_of (width_bytes width) s.now) }
 {
-    let w = width_bytes(width);
-    let mut p = Cursor { at: 0, left: 0 };
+    let mut path = members_of(s, width);
     'search: loop {
-        let here = next_member(s, p, w);
-        let Next::Member(n, after) = here else {
+        let Some(n) = path.next() else {
             return false;
         };
-        let mut q = after;
         let mut other = false;
-        loop {
-            let there = next_member(s, q, w);
-            let Next::Member(m, later) = there else {
-                break;
-            };
+        for m in path {
             if m != n {
                 other = true;
-            } else {
-                if other {
-                    break 'search;
-                }
+            } else if other {
+                break 'search;
             }
-            q = later;
         }
-        p = after;
     }
     true
 }
@@ -237,36 +225,14 @@ pub fn loops(s: &[u8], width: Width) -> bool
 pub fn bogon(n: u32) -> bool
     ensures { result ≡ is_bogon n }
 {
-    let mut i = 0;
-    while i < BOGON_RANGES {
-        let r = BOGONS[i];
-        if r.low <= n {
-            if n <= r.high {
-                return true;
-            }
-        }
-        i += 1;
-    }
-    false
+    BOGONS.iter().any(|r| r.low <= n && n <= r.high)
 }
 
 // Whether some number of the path is a bogon.
 pub fn has_bogon(s: &[u8], width: Width) -> bool
     ensures { result ≡ some_bogon (members_of (width_bytes width) s.now) }
 {
-    let w = width_bytes(width);
-    let mut c = Cursor { at: 0, left: 0 };
-    loop {
-        let here = next_member(s, c, w);
-        let Next::Member(n, after) = here else {
-            break;
-        };
-        if bogon(n) {
-            return true;
-        }
-        c = after;
-    }
-    false
+    members_of(s, width).any(bogon)
 }
 
 // Whether an item of a pattern takes a member.

@@ -6,15 +6,15 @@ use mathlib.Core.Path.{◌≡◌, refl, sym, ◌∙◌}
 use mathlib.Core.List.{List}
 use lib.ListN.{length, get_or, drop, length-drop}
 use borrow.Author.Tests.{eq-eqb, ne_eqb}
-use Rattle.attributes.specs.declared.Found.{Found}
-use Rattle.attributes.specs.declared.Found.TheVariants.{At, Absent}
+use Rattle.std.specs.Prelude.{Option, Some, None}
+use Rattle.attributes.specs.declared.Body.{Body}
 use Rattle.attributes.specs.Wire.{attribute_header, body_size, attribute_size}
 use Rattle.attributes.specs.Finding.{find_in}
 use Rattle.attributes.proofs.Sizes.{attribute_sizes}
 
 module _ (code : ℕ) where
   -- where no whole attribute stands, the bound doesn't matter
-  none_found : (f at : ℕ) (l : List ℕ) → attribute_size l ≡ 0 → find_in f code at l ≡ Absent
+  none_found : (f at : ℕ) (l : List ℕ) → attribute_size l ≡ 0 → find_in f code at l ≡ None
   unfolding find_in
   none_found zero at l z = refl
   none_found (suc f) at l z = simp (eq-eqb _ _ z)
@@ -36,7 +36,7 @@ module _ (code : ℕ) where
       go (no n) ih = rw (ih (simp length-drop (omega arith)) (simp length-drop (omega arith)))
 
   -- the search from a place on, over what is left there
-  abbrev pub find_from : ℕ → List ℕ → Found
+  abbrev pub find_from : ℕ → List ℕ → Option Body
   find_from at l = find_in (length l) code at l
 
   module _ (at : ℕ) (l : List ℕ) where
@@ -45,11 +45,11 @@ module _ (code : ℕ) where
     more_fuel = find_fuel (length l) (suc (length l)) at l (omega arith) (omega arith)
 
     -- no whole attribute stands there
-    pub find_end : attribute_size l ≡ 0 → find_from at l ≡ Absent
+    pub find_end : attribute_size l ≡ 0 → find_from at l ≡ None
     find_end z = none_found (length l) at l z
 
     -- one with the code does
-    pub find_here : (attribute_size l ≡ 0 → ⊥) → get_or l 1 0 ≡ code → find_from at l ≡ At (at + attribute_header l) (body_size l)
+    pub find_here : (attribute_size l ≡ 0 → ⊥) → get_or l 1 0 ≡ code → find_from at l ≡ Some (record { start = at + attribute_header l; len = body_size l })
     unfolding find_in
     find_here n e = more_fuel ∙ simp (ne_eqb _ _ n, eq-eqb _ _ e)
 

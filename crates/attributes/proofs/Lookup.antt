@@ -5,6 +5,7 @@ use mathlib.Core.Path.{◌≡◌, refl, sym, ap, ◌∙◌}
 use mathlib.Core.Bool.{Bool, true, false}
 use mathlib.Core.List.{List, [], ◌∷◌, map}
 use Rattle.std.specs.Prelude.{Option, Some, None, option_map}
+use Rattle.std.specs.Option.{is_some}
 use lib.ListN.{length, get_or, drop}
 use lib.Seq.{drop-drop}
 use lib.Dec.{eqb}
@@ -15,8 +16,7 @@ use Rattle.octets.specs.Rows.{items_in}
 use Rattle.aspath.specs.Wire.{segments_of}
 use Rattle.network.specs.Networks.{address_size}
 use Rattle.communities.specs.Communities.{communities_of}
-use Rattle.attributes.specs.declared.Found.{Found}
-use Rattle.attributes.specs.declared.Found.TheVariants.{At, Absent}
+use Rattle.attributes.specs.declared.Body.{Body}
 use Rattle.attributes.specs.Attribute.{Attribute, first_of, ask_origin, ask_path, ask_next_hop, ask_atomic, ask_aggregator, ask_communities}
 use Rattle.attributes.specs.Attribute.{origin_code, as_path_code, next_hop_code, atomic_aggregate_code, aggregator_code, communities_code}
 use Rattle.attributes.specs.Wire.{Raw, attribute_size, raw_of, raws_of, codes}
@@ -45,32 +45,24 @@ module _ (code : ℕ) (s : List ℕ) where
   find_body : body_at s (find_of code s) ≡ first_body code (raws_of s)
   find_body = body_in (length s) 0
 
--- whether an answer is a place
-abbrev pub found : Found → Bool
-found (At start len) = true
-found Absent = false
+-- an answer is there just where its body is
+there_at : (s : List ℕ) (f : Option Body) → is_some f ≡ is_some (body_at s f)
+there_at s (Some b) = refl
+there_at s None = refl
 
-abbrev present : {A : Type 0} → Option A → Bool
-present (Some a) = true
-present None = false
-
-present_at : (s : List ℕ) (f : Found) → found f ≡ present (body_at s f)
-present_at s (At start len) = refl
-present_at s Absent = refl
-
-first_present : (code : ℕ) (raws : List Raw) → present (first_body code raws) ≡ elem code (codes raws)
+first_there : (code : ℕ) (raws : List Raw) → is_some (first_body code raws) ≡ elem code (codes raws)
 unfolding first_body elem
-first_present code [] = refl
-first_present code (r ∷ raws) = go (eqb r.code code) (first_present code raws)
+first_there code [] = refl
+first_there code (r ∷ raws) = go (eqb r.code code) (first_there code raws)
   where
-    go : (b : Bool) → present (first_body code raws) ≡ elem code (codes raws)
-        → present (pick b (Some r.body) (first_body code raws)) ≡ pick b true (elem code (codes raws))
+    go : (b : Bool) → is_some (first_body code raws) ≡ elem code (codes raws)
+        → is_some (pick b (Some r.body) (first_body code raws)) ≡ pick b true (elem code (codes raws))
     go true ih = refl
     go false ih = ih
 
 -- a code is found exactly where it is one of the section's codes
-pub code_found : (code : ℕ) (s : List ℕ) → found (find_of code s) ≡ elem code (codes (raws_of s))
-code_found code s = present_at s (find_of code s) ∙ ap present (find_body code s) ∙ first_present code (raws_of s)
+pub code_found : (code : ℕ) (s : List ℕ) → is_some (find_of code s) ≡ elem code (codes (raws_of s))
+code_found code s = there_at s (find_of code s) ∙ ap is_some (find_body code s) ∙ first_there code (raws_of s)
 
 -- ---- what the attributes say
 

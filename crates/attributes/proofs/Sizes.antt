@@ -3,7 +3,7 @@ use Prim.Native.Nat.{ℕ, ◌+◌, ◌-◌, ◌/◌, ◌%◌, ◌≤◌, ◌<◌
 use native.Mathlib.Nat.{lt_of_not-le, add-zero}
 use native.Mathlib.Decide.{dec_le, ℕ_discrete}
 use native.Mathlib.Omega.{arith}
-use mathlib.Core.Path.{◌≡◌, refl, ◌∙◌}
+use mathlib.Core.Path.{◌≡◌, refl}
 use mathlib.Core.List.{List}
 use mathlib.Core.Logic.{◌⊎◌, inl, inr}
 use lib.ListN.{length, get_or, take, drop, length-drop}
@@ -11,7 +11,9 @@ use lib.Seq.{get_or-drop, drop-drop}
 use borrow.Author.Tests.{le-leb, lt-leb, eq-eqb, ne_eqb}
 use Rattle.octets.specs.Numbers.{number_at}
 use Rattle.octets.proofs.Numbers.{number_lt, number_drop}
-use Rattle.octets.proofs.Rows.{Sizes}
+use Rattle.std.specs.Prelude.{Some}
+use Rattle.octets.specs.Rows.{sized}
+use Rattle.octets.proofs.Rows.{Sizes, sized_some}
 use Rattle.attributes.specs.Wire.{extended_length, length_width, attribute_header, body_size, attribute_size}
 
 -- the length is two bytes under the flag
@@ -104,6 +106,7 @@ attribute_sizes = record { fits = λ l. go l (ℕ_discrete (attribute_size l) 0)
 
 -- an attribute of r bytes stands at a place of a section
 pub record Step (s : List ℕ) (at r : ℕ) : Type 0 where
+  pub same : attribute_size (drop at s) ≡ r
   pub some : attribute_size (drop at s) ≡ 0 → ⊥
   pub long : 3 ≤ r
   pub parts : attribute_header (drop at s) + body_size (drop at s) ≡ r
@@ -111,17 +114,18 @@ pub record Step (s : List ℕ) (at r : ℕ) : Type 0 where
   pub next : drop (attribute_size (drop at s)) (drop at s) ≡ drop (at + r) s
   pub code : get_or (drop at s) 1 0 ≡ get_or s (at + 1) 0
 
--- it does where the size there is r, and r isn't 0
-pub step : (s : List ℕ) (at r : ℕ) → r ≡ attribute_size (drop at s) → (r ≡ 0 → ⊥) → Step s at r
-step s at r e n =
-    let some : attribute_size (drop at s) ≡ 0 → ⊥ = λ z. n (e ∙ z) in
-    let stands = size_stands (drop at s) some in
+-- it does where the size that is there is r
+pub step : (s : List ℕ) (at : ℕ) {r : ℕ} → Some r ≡ sized (attribute_size (drop at s)) → Step s at r
+step s at {r} e =
+    let f = sized_some e in
+    let stands = size_stands (drop at s) f.some in
     record {
-      some = some;
-      long = omega arith;
-      parts = omega arith;
-      fits = omega (arith, length-drop at s);
-      next = rw (← e) (drop-drop r at s);
+      same = f.same;
+      some = f.some;
+      long = omega (arith, f.same, stands.long);
+      parts = omega (arith, f.same, stands.parts);
+      fits = omega (arith, f.same, stands.fits, stands.long, length-drop at s);
+      next = rw f.same (drop-drop r at s);
       code = get_or-drop at s 1 0;
     }
 

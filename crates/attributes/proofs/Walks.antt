@@ -1,14 +1,15 @@
 -- Laws of what a walk finds of the attributes of a section: at the end, at one that isn't whole, at one that is. Assumes nothing.
-use Prim.Native.Nat.{ℕ, ◌<◌}
-use native.Mathlib.Omega.{arith}
+use Prim.Native.Nat.{ℕ, ◌≤◌}
 use mathlib.Core.Path.{◌≡◌, refl, ap, ◌∙◌}
 use mathlib.Core.Bool.{Bool, true, false}
 use mathlib.Core.List.{List, [], ◌∷◌}
 use lib.ListN.{length, get_or, take, drop}
+use lib.Dec.{eqb}
 use Rattle.octets.specs.Choice.{pick}
-use Rattle.octets.specs.Rows.{whole}
+use Rattle.std.specs.Prelude.{None}
+use Rattle.octets.specs.Rows.{sized, whole}
 use Rattle.octets.proofs.Choices.{alike}
-use Rattle.octets.proofs.Rows.{whole_end, whole_bad, whole_next, items_end, items_next}
+use Rattle.octets.proofs.Rows.{sized_none, whole_next, whole_stop, items_end, items_next}
 use Rattle.attributes.specs.Wire.{attribute_header, body_size, attribute_size, raw_of, raws_of, codes}
 use Rattle.attributes.specs.Codes.{is_sound}
 use Rattle.attributes.specs.Bodies.{body_right, all_right}
@@ -33,19 +34,6 @@ module _ (l : List ℕ) where
   pub sound_start : (marked : ℕ → Bool) → ((c : ℕ) → marked c ≡ false) → sound_with marked l ≡ is_sound l
   unfolding sound_with
   sound_start marked h = rw (fresh_start marked h (codes (raws_of l))) refl
-
-  -- nothing is left
-  pub sound_end : (marked : ℕ → Bool) → length l ≡ 0 → sound_with marked l ≡ true
-  unfolding sound_with
-  sound_end marked z = rw (whole_end attribute_size l z, codes_end (zero_size z)) (fresh_end marked)
-    where
-      zero_size : length l ≡ 0 → attribute_size l ≡ 0
-      zero_size e = omega (arith, attribute_sizes.fits l)
-
-  -- what is left starts with no whole attribute
-  pub sound_bad : (marked : ℕ → Bool) → 0 < length l → attribute_size l ≡ 0 → sound_with marked l ≡ false
-  unfolding sound_with
-  sound_bad marked h z = rw (whole_bad attribute_size l h z) refl
 
   module _ {c : ℕ} (n : attribute_size l ≡ 0 → ⊥) (code : get_or l 1 0 ≡ c) where
     -- it starts with one whose code is marked
@@ -78,3 +66,14 @@ module _ (l : List ℕ) where
   pub right_end : (w : ℕ) → attribute_size l ≡ 0 → all_right w (raws_of l) ≡ true
   unfolding all_right
   right_end w z = rw (items_end attribute_size raw_of l z) refl
+
+-- where no attribute stands at a place, what is left is sound just where it is nothing
+pub sound_stop : (marked : ℕ → Bool) (s : List ℕ) (at : ℕ) → at ≤ length s → None ≡ sized (attribute_size (drop at s))
+    → eqb at (length s) ≡ sound_with marked (drop at s)
+unfolding sound_with
+sound_stop marked s at h e =
+    rw (codes_end (drop at s) (sized_none e), fresh_end marked, ← whole_stop attribute_size attribute_sizes s at h e) (go (eqb at (length s)))
+  where
+    go : (b : Bool) → b ≡ pick b true false
+    go true = refl
+    go false = refl

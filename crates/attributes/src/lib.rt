@@ -2,6 +2,7 @@
 #![tactic(auto)]
 
 ghost use Rattle.std.specs.Prelude.{◌≡◌, false, ◌+◌, ◌/◌, ◌%◌, ◌^◌, ◌<◌, ◌≤◌, length, drop, eqb};
+ghost use Rattle.octets.specs.Rows.{sized};
 ghost use Rattle.aspath.specs.Wire.{width_bytes};
 ghost use Rattle.attributes.specs.Wire.{length_width, attribute_header, body_size, attribute_size, raws_of};
 ghost use Rattle.attributes.specs.Codes.{is_sound};
@@ -41,10 +42,10 @@ const TYPE_SIZE: usize = 2;
 const CODE_AT: usize = 1;
 
 // Where the body of an attribute stands in its section.
-#[derive(Clone, Copy)]
-pub enum Found {
-    At { start: usize, len: usize },
-    Absent,
+#[derive(Clone, Copy, PartialEq, Eq, Debug)]
+pub struct Body {
+    pub start: usize,
+    pub len: usize,
 }
 
 // The bytes of an attribute's length.
@@ -73,18 +74,18 @@ fn body_size(s: &[u8], at: usize) -> usize
     octets::number(s, at + TYPE_SIZE, width) as usize
 }
 
-// The bytes of the attribute at a place, 0 where no whole one stands there.
-pub fn attribute_size(s: &[u8], at: usize) -> usize
-    ensures { result ≡ attribute_size (drop at s.now) }
+// The bytes of the attribute at a place, where a whole one stands there.
+pub fn attribute_size(s: &[u8], at: usize) -> Option<usize>
+    ensures { result ≡ sized (attribute_size (drop at s.now)) }
 {
     if s.len() <= at {
-        return 0;
+        return None;
     }
     let size = header_size(s, at) + body_size(s, at);
     if s.len() - at < size {
-        return 0;
+        return None;
     }
-    size
+    Some(size)
 }
 
 // Whether a bit of a word is set.
@@ -109,21 +110,17 @@ pub fn sound(s: &[u8]) -> bool
 {
     let mut seen = [0u64; 4];
     let mut at = 0;
-    while at < s.len() {
-        let size = attribute_size(s, at);
-        if size == 0 {
-            return false;
-        }
-        let code = octets::number(s, at + CODE_AT, 1);
+    while let Some(size) = attribute_size(s, at) {
+        let code = s[at + CODE_AT];
         let word = (code / 64) as usize;
-        let marks = seen[word];
-        if marked(marks, code % 64) {
+        let bit = (code % 64) as u32;
+        if marked(seen[word], bit) {
             return false;
         }
-        seen[word] = mark(marks, code % 64);
+        seen[word] = mark(seen[word], bit);
         at += size;
     }
-    true
+    at == s.len()
 }
 
 // Whether the body of an attribute is as its code asks: ORIGIN, AS_PATH, NEXT_HOP, ATOMIC_AGGREGATE, AGGREGATOR and COMMUNITY are
@@ -152,15 +149,10 @@ pub fn bodies_right(s: &[u8], width: Width) -> bool
     ensures { result ≡ all_right (width_bytes width) (raws_of s.now) }
 {
     let mut at = 0;
-    while at < s.len() {
-        let size = attribute_size(s, at);
-        if size == 0 {
-            return true;
-        }
-        let code = s[at + CODE_AT];
+    while let Some(size) = attribute_size(s, at) {
         let start = at + header_size(s, at);
         let end = at + size;
-        if !body_right(code, &s[start..end], width) {
+        if !body_right(s[at + CODE_AT], &s[start..end], width) {
             return false;
         }
         at = end;
@@ -169,21 +161,17 @@ pub fn bodies_right(s: &[u8], width: Width) -> bool
 }
 
 // The body of the first attribute of a section with a code.
-pub fn find(s: &[u8], code: u8) -> Found
+pub fn find(s: &[u8], code: u8) -> Option<Body>
     ensures { result ≡ find_of code s.now }
 {
     let mut at = 0;
-    while at < s.len() {
-        let size = attribute_size(s, at);
-        if size == 0 {
-            return Found::Absent;
-        }
+    while let Some(size) = attribute_size(s, at) {
         if s[at + CODE_AT] == code {
             let start = at + header_size(s, at);
             let len = body_size(s, at);
-            return Found::At { start, len };
+            return Some(Body { start, len });
         }
         at += size;
     }
-    Found::Absent
+    None
 }

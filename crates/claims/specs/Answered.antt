@@ -1,7 +1,6 @@
 -- What `compile_and_judge` answers, as what compiling and judging answer; and what it leaves where compiling refuses.
 use Rattle.std.specs.Prelude.{ℕ, ◌≡◌, List}
-use Rattle.std.specs.Prelude.{Option, Some, None}
-use Rattle.filter.specs.declared.Compiled.TheVariants as compiled
+use Rattle.std.specs.Prelude.{Option, Some, None, Ok, Err}
 use Rattle.filter.specs.Functions.{Compiling, compiling_of, our_compiler}
 use Rattle.judge.specs.declared.Tally.{Tally}
 use Rattle.judge.specs.Functions.{Judging, judging_of, our_judge}
@@ -18,8 +17,8 @@ counting_of (With t) = Some t
 
 -- what compiling says in an answer, with the program buffer afterwards
 unfoldable pub compiling_in : Answer → List ℕ → Compiling
-compiling_in (Judged bytes j) buffer = compiling_of (compiled.Program bytes) buffer
-compiling_in (Refused why place) buffer = compiling_of (compiled.Refused why place) buffer
+compiling_in (Judged bytes j) buffer = compiling_of (Ok bytes) buffer
+compiling_in (Refused why place) buffer = compiling_of (Err (record { refusal = why; place = place })) buffer
 
 -- what judging does, with the line buffer and the tally afterwards; where compiling refuses, nothing is judged
 unfoldable pub judging_in : Answer → List ℕ → Option Tally → Option Judging

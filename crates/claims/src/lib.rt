@@ -5,7 +5,7 @@ ghost use Rattle.std.specs.Prelude.{◌≡◌};
 ghost use Rattle.judge.specs.Functions.{judging_of, our_judge};
 ghost use Rattle.claims.specs.Answered.{counting_of, Claimed};
 
-use filter::{Compiled, Refusal};
+use filter::Refusal;
 use judge::{Judged, Tally};
 
 // A tally to count in, or none.
@@ -74,9 +74,8 @@ pub fn compile_and_judge(
     ensures { Claimed text.now program.old bytes.now lines.old
         (counting_of counting) result.answer program.new lines.new (counting_of result.counting) }
 {
-    let compiled = filter::compile(text, program);
-    match compiled {
-        Compiled::Program(size) => {
+    match filter::compile(text, program) {
+        Ok(size) => {
             let counted = judge_in(octets::part(program, 0, size), bytes, lines, counting);
             let judged = counted.judged;
             let after = counted.counting;
@@ -88,8 +87,11 @@ pub fn compile_and_judge(
                 counting: after,
             }
         }
-        Compiled::Refused(refusal, place) => Answered {
-            answer: Answer::Refused { refusal, place },
+        Err(refused) => Answered {
+            answer: Answer::Refused {
+                refusal: refused.refusal,
+                place: refused.place,
+            },
             counting,
         },
     }

@@ -2,3 +2,4 @@
 pub mod Communities
 pub mod Names
 pub mod Text
+pub mod Left

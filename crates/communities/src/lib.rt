@@ -37,18 +37,35 @@ pub fn well_formed(body: &[u8]) -> bool
     body.len() % SIZE == 0
 }
 
+// The communities of a body, up to its end or to the first that isn't whole.
+#[derive(Clone, Copy, Debug)]
+pub struct Communities<'a>(pub &'a [u8]);
+
+impl<'a> Iterator for Communities<'a> {
+    ghost use Rattle.std.specs.Iterator.{YieldsFirst, item_count};
+    ghost use Rattle.communities.specs.Left.{communities_left};
+
+    type Item = u32;
+
+    ghost next_gives = { YieldsFirst communities_left };
+
+    ghost remaining = { item_count communities_left };
+
+    fn next(&mut self) -> Option<u32> {
+        if self.0.len() < SIZE {
+            return None;
+        }
+        let community = octets::number(self.0, 0, SIZE);
+        self.0 = &self.0[SIZE..];
+        Some(community)
+    }
+}
+
 // Whether a community stands in a body.
 pub fn has(body: &[u8], community: u32) -> bool
     ensures { result ≡ is_held (communities_of body.now) community }
 {
-    let mut at = 0;
-    while SIZE <= body.len() - at {
-        if octets::number(body, at, SIZE) == community {
-            return true;
-        }
-        at += SIZE;
-    }
-    false
+    Communities(body).any(|held| held == community)
 }
 
 // The community of a name.

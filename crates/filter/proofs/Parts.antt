@@ -2,6 +2,7 @@
 use Prim.Native.Nat.{ℕ}
 use native.Mathlib.Omega.{arith}
 use mathlib.Core.Path.{◌≡◌, sym, ◌∙◌}
+use Rattle.std.specs.Prelude.{Result, Ok, Err}
 use mathlib.Core.List.{List, ◌++◌, append_assoc}
 use Rattle.token.specs.declared.Lexeme.{Lexeme}
 use Rattle.filter.specs.Grammar.{Part}
@@ -9,8 +10,8 @@ use Rattle.filter.specs.Answers.{bare}
 use Rattle.filter.specs.Reader.{Hole, depth, refused}
 use Rattle.filter.specs.Parsing.{from, run, begins, Over, Ready, Passed, Read, Stopped, PartSays}
 use Rattle.filter.specs.declared.Refusal.{Refusal}
-use Rattle.filter.specs.declared.Parsed.{Parsed}
-use Rattle.filter.specs.declared.Parsed.TheVariants.{Upto, Refused}
+use Rattle.filter.specs.declared.Refused.{Refused}
+use Rattle.filter.specs.declared.Upto.{Upto}
 
 -- behind a part the next token is ready
 pub read_ready : {p : Part} {text old new : List ℕ} {lv n m : ℕ} {t u : Lexeme} → Ready text t n → Read p text lv t n old u m new → Ready text u m
@@ -36,17 +37,17 @@ stopped_in p q {text} {lv} {in_lv} {place} {t} {u} x s f = record {
 
 module _ {p : Part} {text old new : List ℕ} {lv n : ℕ} {t : Lexeme} where
   -- an answer for what was read
-  pub says_read : {u : Lexeme} {m : ℕ} → Read p text lv t n old u m new → Over p (from text u) → PartSays p text lv t n old (Upto u m) new
-  says_read {u} {m} r o = record {
-    upto = λ v j e. let x : u ≡ v = cc in let y : m ≡ j = cc in rw (← x, ← y) r;
-    over = λ v j e. let x : u ≡ v = cc in rw (← x) o;
-    refused = λ k q e. let z : ◌≡◌ {A = ℕ} 0 1 = cc in absurd (omega arith);
+  pub says_read : {u : Upto} → Read p text lv t n old u.next u.n new → Over p (from text u.next) → PartSays p text lv t n old (Ok u) new
+  says_read {u} r o = record {
+    upto = λ v e. let x : u ≡ v = cc in rw (← x) r;
+    over = λ v e. let x : u ≡ v = cc in rw (← x) o;
+    refused = λ x e. let z : ◌≡◌ {A = ℕ} 0 1 = cc in absurd (omega arith);
   }
 
   -- for what was refused
-  pub says_stopped : {r : Parsed} {k : Refusal} {q : ℕ} → r ≡ Refused k q → Stopped p text lv t k q → PartSays p text lv t n old r new
-  says_stopped {r} {k} {q} f s = record {
-    upto = λ v j e. let z : ◌≡◌ {A = ℕ} 0 1 = cc in absurd (omega arith);
-    over = λ v j e. let z : ◌≡◌ {A = ℕ} 0 1 = cc in absurd (omega arith);
-    refused = λ k' q' e. let x : k ≡ k' = cc in let y : q ≡ q' = cc in rw (← x, ← y) s;
+  pub says_stopped : {x : Refused} → Stopped p text lv t x.refusal x.place → PartSays p text lv t n old (Err x) new
+  says_stopped {x} s = record {
+    upto = λ v e. let z : ◌≡◌ {A = ℕ} 0 1 = cc in absurd (omega arith);
+    over = λ v e. let z : ◌≡◌ {A = ℕ} 0 1 = cc in absurd (omega arith);
+    refused = λ y e. let z : x ≡ y = cc in rw (← z) s;
   }

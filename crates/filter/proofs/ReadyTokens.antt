@@ -17,10 +17,10 @@ use Rattle.token.specs.declared.Lexeme.{Lexeme}
 use Rattle.token.proofs.Nexts.{sort_token, next_closed, next_token}
 use Rattle.filter.specs.Words.{Role, joins, flag, name, role_of}
 use Rattle.filter.specs.Answering.{start_of}
-use Rattle.filter.specs.Parsing.{role_said, role_in, first_role, from, Ready, opens_level}
+use Rattle.filter.specs.Parsing.{role_meant, role_said, role_in, first_role, from, Ready, opens_level}
 use Rattle.operand.specs.declared.Name.{Name}
 use Rattle.filter.specs.declared.Role.{Role as Said}
-use Rattle.filter.specs.declared.Role.TheVariants.{And, Or, Loops, Bogons, Named, Unknown}
+use Rattle.filter.specs.declared.Role.TheVariants.{And, Or, Loops, Bogons, Named}
 use Rattle.filter.proofs.Steps.{end_none, ready_next, from_next, fewer_next, start_token, start_end}
 
 module _ {text : List ℕ} {t : Lexeme} {n : ℕ} (ready : Ready text t n) where
@@ -97,17 +97,21 @@ abbrev pub operator_said : Operator → Said
 operator_said and = And
 operator_said or = Or
 
--- an answer that says an operator is that one
-joint_said : (o : Operator) (r : Said) → role_said r ≡ Some (joins o) → r ≡ operator_said o
-joint_said o And e = let x : and ≡ o = cc in ap operator_said x
-joint_said o Or e = let x : or ≡ o = cc in ap operator_said x
-joint_said o Loops e = let z : ◌≡◌ {A = ℕ} 0 1 = cc in absurd (omega arith)
-joint_said o Bogons e = let z : ◌≡◌ {A = ℕ} 0 1 = cc in absurd (omega arith)
-joint_said o (Named k) e = let z : ◌≡◌ {A = ℕ} 0 1 = cc in absurd (omega arith)
-joint_said o Unknown e = let z : ◌≡◌ {A = ℕ} 0 1 = cc in absurd (omega arith)
+-- a role that is an operator is that one
+joint_meant : (o : Operator) (r : Said) → role_meant r ≡ joins o → r ≡ operator_said o
+joint_meant o And e = let x : and ≡ o = cc in ap operator_said x
+joint_meant o Or e = let x : or ≡ o = cc in ap operator_said x
+joint_meant o Loops e = let z : ◌≡◌ {A = ℕ} 0 1 = cc in absurd (omega arith)
+joint_meant o Bogons e = let z : ◌≡◌ {A = ℕ} 0 1 = cc in absurd (omega arith)
+joint_meant o (Named k) e = let z : ◌≡◌ {A = ℕ} 0 1 = cc in absurd (omega arith)
+
+-- an answer that says an operator says that one
+joint_said : (o : Operator) (r : Option Said) → role_said r ≡ Some (joins o) → r ≡ Some (operator_said o)
+joint_said o None e = let z : ◌≡◌ {A = ℕ} 0 1 = cc in absurd (omega arith)
+joint_said o (Some r) e = let x : role_meant r ≡ joins o = cc in ap (λ r. Some r) (joint_meant o r x)
 
 -- another answer says no such operator
-pub not_joint : (o : Operator) {x : Option Role} (r : Said) → role_said r ≡ x → (r ≡ operator_said o → ⊥) → x ≡ Some (joins o) → ⊥
+pub not_joint : (o : Operator) {x : Option Role} (r : Option Said) → role_said r ≡ x → (r ≡ Some (operator_said o) → ⊥) → x ≡ Some (joins o) → ⊥
 not_joint o r s n e = n (joint_said o r (s ∙ e))
 
 -- `)` has its sort
@@ -137,11 +141,10 @@ no_test (Some (joins o)) = true
 no_test (Some (flag x)) = false
 no_test (Some (name k)) = false
 
--- a word that is said to name no test
-pub no_test_said : (r : Said) → (r ≡ Loops → ⊥) → (r ≡ Bogons → ⊥) → ((k : Name) → r ≡ Named k → ⊥) → no_test (role_said r) ≡ true
-no_test_said And l b n = refl
-no_test_said Or l b n = refl
-no_test_said Loops l b n = absurd (l refl)
-no_test_said Bogons l b n = absurd (b refl)
-no_test_said (Named k) l b n = absurd (n k refl)
-no_test_said Unknown l b n = refl
+-- a word whose role is no test's
+pub no_test_meant : (r : Said) → (r ≡ Loops → ⊥) → (r ≡ Bogons → ⊥) → ((k : Name) → r ≡ Named k → ⊥) → no_test (Some (role_meant r)) ≡ true
+no_test_meant And l b n = refl
+no_test_meant Or l b n = refl
+no_test_meant Loops l b n = absurd (l refl)
+no_test_meant Bogons l b n = absurd (b refl)
+no_test_meant (Named k) l b n = absurd (n k refl)

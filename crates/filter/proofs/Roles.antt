@@ -1,17 +1,19 @@
 -- The role of a word: decided, and at most one. The words of the vocabulary differ by one computed test. Assumes nothing.
 use Prim.Native.Nat.{ℕ}
 use mathlib.Core.Path.{◌≡◌, refl}
-use mathlib.Core.Bool.{true}
+use mathlib.Core.Bool.{Bool, true, false}
 use Rattle.std.specs.Prelude.{Some, None}
-use mathlib.Core.List.{List, [], ◌∷◌}
+use mathlib.Core.List.{List, [], ◌∷◌, map}
 use Rattle.token.specs.Next.{bytes_in, token_of, token_in}
 use Rattle.token.specs.declared.Sort.{Sort}
 use Rattle.token.specs.declared.Sort.TheVariants.{End, Open, Close, Bang, Word, Quoted, Unclosed}
 use Rattle.token.specs.declared.Lexeme.{Lexeme}
-use Rattle.program.specs.Readings.{and, has_loop}
-use Rattle.filter.specs.Parsing.{operand_rows, role_in}
-use Rattle.filter.specs.Words.{Role, flag, joins, vocabulary, Says, role_of}
+use Rattle.program.specs.Readings.{has_loop}
+use Rattle.filter.specs.Parsing.{role_meant, role_said, role_in}
+use Rattle.filter.specs.Words.{Role, flag, vocabulary, Says, role_of}
+use Rattle.octets.specs.Choice.{pick}
 use Rattle.octets.specs.Equal.{same}
+use Rattle.filter.specs.declared.Role.{Role as Said}
 use Rattle.operand.proofs.Holding.{some_once}
 use Rattle.names.proofs.Finding.{distinct, found_sound, found_row}
 use Rattle.names.specs.Tables.{Row, row, here, there, found}
@@ -22,9 +24,9 @@ unfolding vocabulary distinct found same
 words_differ = refl
 
 -- a role that was found is said
-pub role_said : (w : List ℕ) {r : Role} → role_of w ≡ Some r → Says w r
+pub says_found : (w : List ℕ) {r : Role} → role_of w ≡ Some r → Says w r
 unfolding role_of
-role_said w e = found_sound vocabulary w e
+says_found w e = found_sound vocabulary w e
 
 -- and none is missed
 pub said_role : {w : List ℕ} {r : Role} → Says w r → role_of w ≡ Some r
@@ -43,14 +45,22 @@ pub loops_said : Says loops_word (flag has_loop)
 unfolding vocabulary loops_word
 loops_said = there (there here)
 
--- what stands past the end of rows
-abbrev pub past : Row Role
-past = row [] (joins and)
+-- ---- the code's table
 
--- the words of the tests that have an operand differ
-pub names_differ : distinct operand_rows ≡ true
-unfolding vocabulary distinct found same
-names_differ = refl
+-- its rows, as roles of the words
+abbrev pub meant : Row Said → Row Role
+meant r = row r.word (role_meant r.value)
+
+-- what is found in it, as a role
+pub found_meant : (rows : List (Row Said)) (w : List ℕ) → role_said (found rows w) ≡ found (map meant rows) w
+unfolding found
+found_meant [] w = refl
+found_meant (r ∷ rs) w = go (same w r.word) (found_meant rs w)
+  where
+    go : (b : Bool) → role_said (found rs w) ≡ found (map meant rs) w
+        → role_said (pick b (Some r.value) (found rs w)) ≡ pick b (Some (role_meant r.value)) (found (map meant rs) w)
+    go true e = refl
+    go false e = e
 
 -- ---- tokens
 

@@ -16,9 +16,8 @@ use Rattle.program.specs.Readings.{has_loop, has_bogon, Operator, and, or}
 use Rattle.operand.specs.declared.Name.{Name}
 use Rattle.operand.specs.declared.Name.TheVariants.{MessageType as type_name, Attribute as attribute_name, Path as path_name, Peer as peer_name, Time as time_name, Network as network_name, Communities as communities_name}
 use Rattle.filter.specs.Words.{Role, joins, flag, name, vocabulary, Says}
-use Rattle.names.specs.Tables.{Row}
+use Rattle.names.specs.Tables.{Row, row}
 use Rattle.names.proofs.Finding.{in_each, in_place}
-use Rattle.filter.proofs.Roles.{past}
 use Rattle.filter.proofs.Spelling.{Wordly}
 
 -- ---- words can be written
@@ -65,6 +64,10 @@ pub record Said (most : ℕ) (r : Role) : Type 0 where
   pub word : List ℕ
   pub says : Says word r
   pub few : length word ≤ most
+
+-- what stands past the end of rows
+abbrev past : Row Role
+past = row [] (joins and)
 
 -- a row's word says the row's role
 row_said : (i : ℕ) {most : ℕ} → i < length vocabulary → length (get_or vocabulary i past).word ≤ most → Said most (get_or vocabulary i past).value

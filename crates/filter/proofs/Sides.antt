@@ -2,12 +2,10 @@
 use Prim.Native.Nat.{ℕ, ◌+◌, ◌-◌, ◌*◌, ◌<◌}
 use native.Mathlib.Omega.{arith}
 use mathlib.Core.Path.{◌≡◌, refl, sym, ap, ◌∙◌}
-use Rattle.std.specs.Prelude.{Some}
+use Rattle.std.specs.Prelude.{Some, Result, Ok, Err}
 use mathlib.Core.List.{List}
 use lib.ListN.{length}
 use lib.Seq.{sets, length-sets}
-use Rattle.octets.specs.Writes.{Written}
-use Rattle.program.specs.declared.Fields.{Fields}
 use Rattle.program.specs.Readings.{Operator, and, or, Reading, joint, weight}
 use Rattle.program.specs.Kinds.{operator_kind}
 use Rattle.program.specs.Layout.{record_size, fields, laid}
@@ -20,8 +18,8 @@ use Rattle.filter.specs.Grammar.{Part, expression, conjunction, factor}
 use Rattle.filter.specs.Reader.{Hole, first, oring, head, anding, depth, ReaderState, want, takes, settle, outer, again, join, move}
 use Rattle.filter.specs.Parsing.{role_in, first_role, from, run, begins, Stood, Over, Ready, Read, PartSays}
 use Rattle.filter.specs.declared.Refusal.{Refusal}
-use Rattle.filter.specs.declared.Parsed.{Parsed}
-use Rattle.filter.specs.declared.Parsed.TheVariants.{Upto, Refused}
+use Rattle.filter.specs.declared.Refused.{Refused}
+use Rattle.filter.specs.declared.Upto.{Upto}
 use Rattle.filter.proofs.Overlay.{wrote_pass}
 use Rattle.filter.proofs.Steps.{token_within, ready_next, next_behind, run_takes, passed_none, passed_next, passed_both}
 use Rattle.filter.proofs.ReadyTokens.{first_role_lem, Worded, worded, next_fewer}
@@ -87,27 +85,27 @@ joins_moves or a h s w (c, k, x, e) q = rw e (ap (join c k) q ∙ ap (λ z. take
 -- ---- sides joined by an operator
 
 -- some sides were read, and the last of them ends there
-pub record Sofar (o : Operator) (text : List ℕ) (lv : ℕ) (t : Lexeme) (n : ℕ) (old : List ℕ) (u : Lexeme) (m : ℕ) (new : List ℕ) : Type 0 where
-  pub read : Read (chain o) text lv t n old u m new
-  pub over : Over (side o) (from text u)
-  pub ready : Ready text u m
+pub record Sofar (o : Operator) (text : List ℕ) (lv : ℕ) (t : Lexeme) (n : ℕ) (old : List ℕ) (u : Upto) (new : List ℕ) : Type 0 where
+  pub read : Read (chain o) text lv t n old u.next u.n new
+  pub over : Over (side o) (from text u.next)
+  pub ready : Ready text u.next u.n
 
 -- the buffer's length is kept
-pub sofar_length : {o : Operator} {text old new : List ℕ} {lv n m : ℕ} {t u : Lexeme} → Sofar o text lv t n old u m new → length new ≡ length old
+pub sofar_length : {o : Operator} {text old new : List ℕ} {lv n : ℕ} {t : Lexeme} {u : Upto} → Sofar o text lv t n old u new → length new ≡ length old
 sofar_length {old = old} {n = n} g = ap length g.read.wrote ∙ length-sets old (record_size * n) (program_of g.read.reading)
 
 module _ (o : Operator) {text old : List ℕ} {lv n : ℕ} {t : Lexeme} where
   -- a first side
-  pub sofar_first : {r : Parsed} {new : List ℕ} {u : Lexeme} {m : ℕ} → Ready text t n → PartSays (side o) text lv t n old r new → r ≡ Upto u m
-      → Sofar o text lv t n old u m new
-  sofar_first {new = new} {u = u} {m = m} ready s e = record { read = lift (s.upto u m e); over = s.over u m e; ready = read_ready ready (s.upto u m e) }
+  pub sofar_first : {r : Result Upto Refused} {new : List ℕ} {u : Upto} → Ready text t n → PartSays (side o) text lv t n old r new → r ≡ Ok u
+      → Sofar o text lv t n old u new
+  sofar_first {new = new} {u = u} ready s e = record { read = lift (s.upto u e); over = s.over u e; ready = read_ready ready (s.upto u e) }
     where
       by_run : (x : Reading) (h : Hole (chain o))
-          → (s : ReaderState) × Stood (side o) x (alone o h) s × (run (begins (side o) (alone o h)) (from text t) ≡ run s (from text u))
-          → (s : ReaderState) × Stood (chain o) x h s × (run (begins (chain o) h) (from text t) ≡ run s (from text u))
+          → (s : ReaderState) × Stood (side o) x (alone o h) s × (run (begins (side o) (alone o h)) (from text t) ≡ run s (from text u.next))
+          → (s : ReaderState) × Stood (chain o) x h s × (run (begins (chain o) h) (from text t) ≡ run s (from text u.next))
       by_run x h (s, i, e) = (s, stood_alone o x h s i, ap (λ b. run b (from text t)) (begins_alone o h) ∙ e)
 
-      lift : Read (side o) text lv t n old u m new → Read (chain o) text lv t n old u m new
+      lift : Read (side o) text lv t n old u.next u.n new → Read (chain o) text lv t n old u.next u.n new
       lift r = record {
         reading = r.reading;
         runs = λ h d. by_run r.reading h (r.runs (alone o h) (depth_alone o h ∙ d));
@@ -121,54 +119,55 @@ module _ (o : Operator) {text old : List ℕ} {lv n : ℕ} {t : Lexeme} where
       }
 
   -- a first side that is refused
-  pub first_stops : {r : Parsed} {new : List ℕ} {k : Refusal} {q : ℕ} → r ≡ Refused k q → PartSays (side o) text lv t n old r new → PartSays (chain o) text lv t n old r new
-  first_stops {k = k} {q = q} e s =
-      says_stopped e
-      (stopped_in (chain o) (side o) passed_none (s.refused k q e) (λ h d. (alone o h, depth_alone o h ∙ d, ap (λ b. run b (from text t)) (begins_alone o h))))
+  pub first_stops : {r : Result Upto Refused} {new : List ℕ} {x : Refused} → r ≡ Err x → PartSays (side o) text lv t n old r new
+      → PartSays (chain o) text lv t n old (Err x) new
+  first_stops {x = x} e s =
+      says_stopped
+      (stopped_in (chain o) (side o) passed_none (s.refused x e) (λ h d. (alone o h, depth_alone o h ∙ d, ap (λ b. run b (from text t)) (begins_alone o h))))
 
-  module _ {u : Lexeme} {m : ℕ} {mid : List ℕ} (g : Sofar o text lv t n old u m mid) where
+  module _ {u : Upto} {mid : List ℕ} (g : Sofar o text lv t n old u mid) where
     -- no side more
-    pub sofar_last : (role_in (token_in text u) ≡ Some (joins o) → ⊥) → PartSays (chain o) text lv t n old (Upto u m) mid
+    pub sofar_last : (role_in (token_in text u.next) ≡ Some (joins o) → ⊥) → PartSays (chain o) text lv t n old (Ok u) mid
     unfolding Over
     sofar_last f = says_read g.read (by_operator o g.over (λ e. f (sym (first_role_lem g.ready) ∙ e)))
       where
-        by_operator : (o : Operator) → Over (side o) (from text u) → (first_role (from text u) ≡ Some (joins o) → ⊥) → Over (chain o) (from text u)
+        by_operator : (o : Operator) → Over (side o) (from text u.next) → (first_role (from text u.next) ≡ Some (joins o) → ⊥) → Over (chain o) (from text u.next)
         by_operator and x f = f
         by_operator or x f = (x, f)
 
-    module _ (role : role_in (token_in text u) ≡ Some (joins o)) where
+    module _ (role : role_in (token_in text u.next) ≡ Some (joins o)) where
       -- the operator's word
-      operator_word : Worded (token_in text u) (joins o)
-      operator_word = worded (token_in text u) role
+      operator_word : Worded (token_in text u.next) (joins o)
+      operator_word = worded (token_in text u.next) role
 
       -- from it on a side is wanted
       side_wanted : (h : Hole (chain o)) → depth h ≡ lv
-          → run (begins (chain o) h) (from text t) ≡ run (begins (side o) (behind o g.read.reading h)) (from text (next_at text u.end))
+          → run (begins (chain o) h) (from text t) ≡ run (begins (side o) (behind o g.read.reading h)) (from text (next_at text u.next.end))
       side_wanted h d = by_run (g.read.runs h d)
         where
-          by_run : (s : ReaderState) × Stood (chain o) g.read.reading h s × (run (begins (chain o) h) (from text t) ≡ run s (from text u))
-              → run (begins (chain o) h) (from text t) ≡ run (begins (side o) (behind o g.read.reading h)) (from text (next_at text u.end))
+          by_run : (s : ReaderState) × Stood (chain o) g.read.reading h s × (run (begins (chain o) h) (from text t) ≡ run s (from text u.next))
+              → run (begins (chain o) h) (from text t) ≡ run (begins (side o) (behind o g.read.reading h)) (from text (next_at text u.next.end))
           by_run (s, i, e) = e ∙ run_takes g.ready operator_word.token s (joins_moves o g.read.reading h s operator_word.bytes i operator_word.role)
 
       -- the token behind it is ready
-      pub side_ready : {l : Lexeme} → l ≡ next_at text u.end → Ready text l (m + 1)
+      pub side_ready : {l : Lexeme} → l ≡ next_at text u.next.end → Ready text l (u.n + 1)
       side_ready e = rw e (ready_next g.ready operator_word.token)
 
       -- fewer tokens are left there
-      pub side_fewer : {l : Lexeme} → l ≡ next_at text u.end → length (from text l) < length (from text u)
+      pub side_fewer : {l : Lexeme} → l ≡ next_at text u.next.end → length (from text l) < length (from text u.next)
       side_fewer e = next_fewer g.ready operator_word.token e
 
       -- a side that is refused
-      pub more_stops : {l : Lexeme} {r : Parsed} {late : List ℕ} {k : Refusal} {q : ℕ} → l ≡ next_at text u.end → r ≡ Refused k q
-          → PartSays (side o) text lv l (m + 1) mid r late → PartSays (chain o) text lv t n old r late
-      more_stops {k = k} {q = q} e f s =
-          says_stopped f
-          (stopped_in (chain o) (side o) (passed_both g.read.passed (passed_next g.ready operator_word.token)) ((rw e at s).refused k q f)
+      pub more_stops : {l : Lexeme} {r : Result Upto Refused} {late : List ℕ} {x : Refused} → l ≡ next_at text u.next.end → r ≡ Err x
+          → PartSays (side o) text lv l (u.n + 1) mid r late → PartSays (chain o) text lv t n old (Err x) late
+      more_stops {x = x} e f s =
+          says_stopped
+          (stopped_in (chain o) (side o) (passed_both g.read.passed (passed_next g.ready operator_word.token)) ((rw e at s).refused x f)
           (λ h d. (behind o g.read.reading h, depth_behind o g.read.reading h ∙ d, side_wanted h d)))
 
       -- a side more, with its pass
-      more_read : {v : Lexeme} {j : ℕ} {late new : List ℕ} → Read (side o) text lv (next_at text u.end) (m + 1) mid v j late
-          → new ≡ sets late (record_size * m) (laid (fields (operator_kind o) 0 (j - m - 1) 0 0)) → Read (chain o) text lv t n old v j new
+      more_read : {v : Lexeme} {j : ℕ} {late new : List ℕ} → Read (side o) text lv (next_at text u.next.end) (u.n + 1) mid v j late
+          → new ≡ sets late (record_size * u.n) (laid (fields (operator_kind o) 0 (j - u.n - 1) 0 0)) → Read (chain o) text lv t n old v j new
       unfolding weight
       more_read {v} {j} r w = record {
         reading = joint o g.read.reading r.reading;
@@ -184,18 +183,14 @@ module _ (o : Operator) {text old : List ℕ} {lv n : ℕ} {t : Lexeme} where
         where
           by_run : (h : Hole (chain o)) → depth h ≡ lv
               → (s : ReaderState) × Stood (side o) r.reading (behind o g.read.reading h) s
-              × (run (begins (side o) (behind o g.read.reading h)) (from text (next_at text u.end)) ≡ run s (from text v))
+              × (run (begins (side o) (behind o g.read.reading h)) (from text (next_at text u.next.end)) ≡ run s (from text v))
               → (s : ReaderState) × Stood (chain o) (joint o g.read.reading r.reading) h s × (run (begins (chain o) h) (from text t) ≡ run s (from text v))
           by_run h d (s, i, e) = (s, stood_behind o g.read.reading r.reading h s i, side_wanted h d ∙ e)
 
       -- the same, from the answers of the functions called
-      pub sofar_more : {l v : Lexeme} {j p : ℕ} {r : Parsed} {f : Fields} {late new : List ℕ} → l ≡ next_at text u.end
-          → PartSays (side o) text lv l (m + 1) mid r late → r ≡ Upto v j → f ≡ fields (operator_kind o) 0 (j - m - 1) 0 0
-          → Written late (record_size * m) (laid f) new p → Sofar o text lv t n old v j new
-      sofar_more {v = v} {j = j} {late = late} e s x i w =
+      pub sofar_more : {l : Lexeme} {v : Upto} {r : Result Upto Refused} {late new : List ℕ} → l ≡ next_at text u.next.end
+          → PartSays (side o) text lv l (u.n + 1) mid r late → r ≡ Ok v
+          → new ≡ sets late (record_size * u.n) (laid (fields (operator_kind o) 0 (v.n - u.n - 1) 0 0)) → Sofar o text lv t n old v new
+      sofar_more {v = v} e s x w =
           let s' = rw e at s in
-          record {
-            read = more_read (s'.upto v j x) (w.laid ∙ ap (λ f. sets late (record_size * m) (laid f)) i);
-            over = s'.over v j x;
-            ready = read_ready (side_ready refl) (s'.upto v j x);
-          }
+          record { read = more_read (s'.upto v x) w; over = s'.over v x; ready = read_ready (side_ready refl) (s'.upto v x) }

@@ -18,7 +18,7 @@ use Rattle.filter.proofs.Agree.{levels_within}
 use Rattle.operand.specs.declared.Name.{Name}
 use Rattle.operand.specs.Tests.{StandsFor, meaning}
 use Rattle.operand.proofs.Meanings.{meaning_sound, meaning_complete}
-use Rattle.filter.proofs.Roles.{role_said}
+use Rattle.filter.proofs.Roles.{says_found}
 
 -- these tokens lead to h
 pub data Before : (p : Part) → List Token → Hole p → Type 0 where
@@ -124,7 +124,7 @@ unfolding move
 move_at ts (want h) open' a = at_head (at_first (at_group a))
 move_at ts (want h) bang a = at_not a
 move_at ts (want h) close a = tt
-move_at ts (want h) (word w) a = begin_at ts h w a (role_of w) (λ y e. role_said w e)
+move_at ts (want h) (word w) a = begin_at ts h w a (role_of w) (λ y e. says_found w e)
 move_at ts (want h) (quoted v) a = tt
 move_at ts (operand k h) open' a = tt
 move_at ts (operand k h) bang a = tt
@@ -134,7 +134,7 @@ move_at ts (operand k h) (quoted v) a = fill_at ts k h (quoted v) v a_quoted a (
 move_at ts (have r h) open' a = tt
 move_at ts (have r h) bang a = tt
 move_at ts (have r h) close a = leave_at (outer r h) (outer_at a)
-move_at ts (have r h) (word w) a = join_at ts r h w a (role_of w) (λ y e. role_said w e)
+move_at ts (have r h) (word w) a = join_at ts r h w a (role_of w) (λ y e. says_found w e)
 move_at ts (have r h) (quoted v) a = tt
 
 module _ (L : ℕ) where

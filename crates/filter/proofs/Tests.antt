@@ -3,7 +3,7 @@ use Prim.Native.Nat.{ℕ, ◌+◌, ◌*◌, ◌≤◌, ◌<◌}
 use native.Mathlib.Omega.{arith}
 use mathlib.Core.Path.{◌≡◌, refl, sym, ap, ◌∙◌}
 use mathlib.Core.Bool.{true, false}
-use Rattle.std.specs.Prelude.{Option, Some, None}
+use Rattle.std.specs.Prelude.{Option, Some, None, Ok, Err}
 use mathlib.Core.List.{List, [], ◌∷◌, append-nil}
 use lib.ListN.{length, length-map}
 use lib.Seq.{sets}
@@ -24,8 +24,8 @@ use Rattle.filter.specs.Grammar.{factor}
 use Rattle.filter.specs.Answers.{bare}
 use Rattle.filter.specs.Reader.{Hole, ReaderState, want, bad, stuck, refused, settle, conclude, finish, move, operand, Why, broken, begin, fill}
 use Rattle.filter.specs.Answering.{refusal_of}
-use Rattle.filter.specs.Parsing.{role_in, from, run, begins, Stood, Over, Ready, Passed, operand_sort, opens_level, TestSays}
-use Rattle.filter.specs.declared.Parsed.TheVariants.{Upto, Refused}
+use Rattle.filter.specs.Parsing.{role_in, from, run, begins, Stood, Over, Ready, Passed, operand_sort, opens_level, refused_at, TestSays}
+use Rattle.filter.specs.declared.Upto.{Upto}
 use Rattle.filter.proofs.Steps.{run_none, end_none, token_within, ready_next, next_behind, from_next, fewer_next, run_takes, run_stuck, stopped_here, passed_next, passed_both, run_breaks}
 use Rattle.octets.proofs.Choices.{never}
 use Rattle.octets.proofs.Writes.{both}
@@ -86,9 +86,9 @@ module _ {text : List ℕ} {t : Lexeme} {n : ℕ} (ready : Ready text t n) where
       go Unclosed k o = absurd (ready_closed ready k)
 
   -- a lexeme that is no test is refused at its place
-  pub no_test_lem : {old new : List ℕ} → opens_level t.sort ≡ false → no_test (role_in (token_in text t)) ≡ true → TestSays text t n old (Refused refusals.Token t.start) new
+  pub no_test_lem : {old new : List ℕ} → opens_level t.sort ≡ false → no_test (role_in (token_in text t)) ≡ true → TestSays text t n old (Err (refused_at refusals.Token t.start)) new
   unfolding begins
-  no_test_lem o r = record { says = λ level. says_stopped refl (stopped_here factor bad (start_here ready) (λ h d. stuck_factor o r h)) }
+  no_test_lem o r = record { says = λ level. says_stopped (stopped_here factor bad (start_here ready) (λ h d. stuck_factor o r h)) }
 
 -- ---- a test that was read
 
@@ -103,7 +103,7 @@ pub record Taken (text : List ℕ) (t u : Lexeme) (x : Test) : Type 0 where
 
 -- a test that was read and written, as an answer
 test_says : {text : List ℕ} {t u : Lexeme} {n m : ℕ} {old new : List ℕ} {x : Test} → Taken text t u x → m ≡ n + weight (test x) → new ≡ sets old (record_size * n) (program_of (test x))
-    → TestSays text t n old (Upto u m) new
+    → TestSays text t n old (Ok (record { next = u; n = m })) new
 unfolding begins Stood Over
 test_says {x = x} k c w = record {
   says = λ level. says_read (record {
@@ -120,14 +120,14 @@ test_says {x = x} k c w = record {
 }
 
 -- a test whose record stands alone, as an answer
-pub alone_says : {text : List ℕ} {t u : Lexeme} {n p : ℕ} {old new : List ℕ} {x : Test} {f : Fields} → Taken text t u x → items_of x ≡ [] → f ≡ head_fields (head_of x)
-    → Written old (record_size * n) (laid f) new p → TestSays text t n old (Upto u (n + 1)) new
+alone_says : {text : List ℕ} {t : Lexeme} {u : Upto} {n : ℕ} {old new : List ℕ} {x : Test} → Taken text t u.next x → items_of x ≡ [] → u.n ≡ n + 1
+    → new ≡ sets old (record_size * n) (laid (head_fields (head_of x))) → TestSays text t n old (Ok u) new
 unfolding weight records fields_of encode_all
-alone_says {x = x} k i e w = test_says k (omega (arith, items_counted x, ap length i)) (w.laid ∙ rw (e, i, append-nil (laid (head_fields (head_of x)))) refl)
+alone_says {x = x} k i e w = test_says k (omega (arith, items_counted x, ap length i)) (w ∙ rw (i, append-nil (laid (head_fields (head_of x)))) refl)
 
 -- a test whose other records stand behind its head, as an answer
 followed_says : {text : List ℕ} {t u : Lexeme} {n m p z : ℕ} {old mid new : List ℕ} {x : Test} {f : Fields} → Taken text t u x → m ≡ length (following_of x) → f ≡ head_fields (head_of x)
-    → Written old (record_size * n) (laid f) mid p → Written mid p (encode_all (following_of x)) new z → TestSays text t n old (Upto u (n + 1 + m)) new
+    → Written old (record_size * n) (laid f) mid p → Written mid p (encode_all (following_of x)) new z → TestSays text t n old (Ok (record { next = u; n = n + 1 + m })) new
 unfolding weight records fields_of encode_all
 followed_says {x = x} {f = f} k c e w y =
     test_says k (omega (arith, c, length-map (items_of x) item, items_counted x)) ((both (laid f) (encode_all (following_of x)) w y).laid ∙ rw e refl)
@@ -136,7 +136,7 @@ followed_says {x = x} {f = f} k c e w y =
 
 module _ {text : List ℕ} {t : Lexeme} {n : ℕ} (ready : Ready text t n) where
   -- a test with no operand
-  pub flag_taken : {u : Lexeme} {x : Test} → role_in (token_in text t) ≡ Some (flag x) → items_of x ≡ [] → u ≡ next_at text t.end → Taken text t u x
+  flag_taken : {u : Lexeme} {x : Test} → role_in (token_in text t) ≡ Some (flag x) → items_of x ≡ [] → u ≡ next_at text t.end → Taken text t u x
   unfolding move begin weight
   flag_taken {u} {x} r i e =
       let w = worded (token_in text t) r in
@@ -149,6 +149,11 @@ module _ {text : List ℕ} {t : Lexeme} {n : ℕ} (ready : Ready text t n) where
         fewer = fewer_next ready w.token;
         light = omega (arith, (token_within ready w.token).0, next_behind ready w.token, items_counted x, ap length i);
       })
+
+  -- and its record, as an answer
+  pub flag_says : {u : Upto} {x : Test} {old new : List ℕ} → role_in (token_in text t) ≡ Some (flag x) → items_of x ≡ []
+      → (u.next ≡ next_at text t.end) × (u.n ≡ n + 1) → new ≡ sets old (record_size * n) (laid (head_fields (head_of x))) → TestSays text t n old (Ok u) new
+  flag_says r i e w = alone_says (flag_taken r i e.0) i e.1 w
 
   module _ {k : Name} {o : Lexeme} (r : role_in (token_in text t) ≡ Some (name k)) (e : o ≡ next_at text t.end) where
     -- the token behind a test's name is ready
@@ -169,10 +174,10 @@ module _ {text : List ℕ} {t : Lexeme} {n : ℕ} (ready : Ready text t n) where
     wants h = let w = worded (token_in text t) r in rw e (run_takes ready w.token (want h) (ap (begin h) w.role))
 
     -- a test is refused at the token behind its name
-    behind : (w : Why) → ((h : Hole factor) → run (operand k h) (from text o) ≡ refused w (bare (from text o))) → {old new : List ℕ} → TestSays text t n old (Refused (refusal_of w) o.start) new
+    behind : (w : Why) → ((h : Hole factor) → run (operand k h) (from text o) ≡ refused w (bare (from text o))) → {old new : List ℕ} → TestSays text t n old (Err (refused_at (refusal_of w) o.start)) new
     unfolding begins
     behind w f = record {
-      says = λ level. says_stopped refl (record {
+      says = λ level. says_stopped (record {
         why = w;
         front = placed t.start (word (worded (token_in text t) r).bytes) ∷ [];
         rest = from text o;
@@ -184,7 +189,7 @@ module _ {text : List ℕ} {t : Lexeme} {n : ℕ} (ready : Ready text t n) where
     }
 
     -- no operand follows
-    pub no_operand : {old new : List ℕ} → operand_sort o.sort ≡ false → TestSays text t n old (Refused refusals.Token o.start) new
+    pub no_operand : {old new : List ℕ} → operand_sort o.sort ≡ false → TestSays text t n old (Err (refused_at refusals.Token o.start)) new
     no_operand q = behind bad (stuck_operand ready_operand q k)
 
     module _ {v : List ℕ} (q : operand_sort o.sort ≡ true) (b : v ≡ bytes_in text o) where
@@ -201,7 +206,7 @@ module _ {text : List ℕ} {t : Lexeme} {n : ℕ} (ready : Ready text t n) where
       decides h = offer.moves k h ∙ ap (λ (w : List ℕ). fill h (meaning k w)) (sym b) ∙ ap (fill h) (sym (meaning_answered k v operand_short))
 
       -- it breaks its test's rule
-      pub broken_operand : {old new : List ℕ} → Broken ≡ meant_of (operand_meaning k v) → TestSays text t n old (Refused refusals.Operand o.start) new
+      pub broken_operand : {old new : List ℕ} → Broken ≡ meant_of (operand_meaning k v) → TestSays text t n old (Err (refused_at refusals.Operand o.start)) new
       unfolding fill
       broken_operand m = behind broken (λ h. run_breaks ready_operand offer.is (operand k h) (decides h ∙ ap (fill h) (none_meant k v m)))
 
@@ -242,5 +247,5 @@ module _ {text : List ℕ} {t : Lexeme} {n : ℕ} (ready : Ready text t n) where
 
         -- its head and the records that follow
         pub named_says : {u : Lexeme} {old mid new : List ℕ} {p z : ℕ} → u ≡ next_at text o.end → Written old (record_size * n) (laid f) mid p
-            → Written mid p (encode_all (following_meant (operand_meaning k v))) new z → TestSays text t n old (Upto u (n + 1 + more)) new
+            → Written mid p (encode_all (following_meant (operand_meaning k v))) new z → TestSays text t n old (Ok (record { next = u; n = n + 1 + more })) new
         named_says d w y = followed_says (named_taken d) head_test.following head_test.head w (rw head_test.means at y)

@@ -1,10 +1,9 @@
 -- Compiling as a function of all that is lent, so that a claim can be said of another compiler too; and ours.
-use Rattle.std.specs.Prelude.{ℕ, ◌*◌, List, ◌++◌, length, take, drop}
+use Rattle.std.specs.Prelude.{ℕ, ◌*◌, List, ◌++◌, length, take, drop, Result, Ok, Err}
 use Rattle.program.specs.Readings.{weight}
 use Rattle.program.specs.Layout.{record_size}
 use Rattle.program.specs.Compiling.{program_of}
-use Rattle.filter.specs.declared.Compiled.{Compiled}
-use Rattle.filter.specs.declared.Compiled.TheVariants.{Program, Refused}
+use Rattle.filter.specs.declared.Refused.{Refused}
 use Rattle.filter.specs.Answers.{number_of, TextOutcome, compiled, refused}
 use Rattle.filter.specs.Answering.{answer}
 
@@ -23,9 +22,9 @@ abbrev pub reported : Compiling → List ℕ
 reported c = take c.value c.buffer
 
 -- what the code's answer says, with the program buffer afterwards
-unfoldable pub compiling_of : Compiled → List ℕ → Compiling
-compiling_of (Program bytes) buffer = record { number = 0; value = bytes; buffer = buffer }
-compiling_of (Refused why place) buffer = record { number = number_of why; value = place; buffer = buffer }
+unfoldable pub compiling_of : Result ℕ Refused → List ℕ → Compiling
+compiling_of (Ok bytes) buffer = record { number = 0; value = bytes; buffer = buffer }
+compiling_of (Err r) buffer = record { number = number_of r.refusal; value = r.place; buffer = buffer }
 
 -- what an answer in words says, with what it does to the buffer: the program's records over its start, or nothing
 abbrev pub compiling : TextOutcome → List ℕ → Compiling

@@ -1,6 +1,6 @@
 -- What the grammar functions promise, said of the reader: whatever stands around a part, the reader goes on from where the part ends.
-use Rattle.std.specs.Prelude.{ℕ, ◌+◌, ◌*◌, ◌≤◌, ◌<◌, ◌≡◌, Bool, true, false, List, [], ◌∷◌, ◌++◌, length, drop}
-use Rattle.std.specs.Prelude.{Option, Some, None}
+use Rattle.std.specs.Prelude.{ℕ, ◌+◌, ◌*◌, ◌≤◌, ◌<◌, ◌≡◌, Bool, true, false, List, [], ◌∷◌, ◌++◌, length}
+use Rattle.std.specs.Prelude.{Option, Some, None, Result, Ok, Err}
 use Rattle.std.proofs.lemmas.List.Edits.{sets}
 use Rattle.program.specs.Readings.{has_loop, has_bogon, and, or, Reading, weight}
 use Rattle.program.specs.Layout.{record_size}
@@ -12,8 +12,7 @@ use Rattle.token.specs.Next.{left, Closed, next_at}
 use Rattle.token.specs.declared.Sort.{Sort}
 use Rattle.token.specs.declared.Sort.TheVariants.{End, Open, Close, Bang, Word, Quoted, Unclosed}
 use Rattle.token.specs.declared.Lexeme.{Lexeme}
-use Rattle.names.specs.Tables.{Row}
-use Rattle.filter.specs.Words.{joins, flag, name, vocabulary, role_of}
+use Rattle.filter.specs.Words.{joins, flag, name, role_of}
 use Rattle.filter.specs.Words as words
 use Rattle.filter.specs.Grammar.{Part, expression, conjunction, factor}
 use Rattle.filter.specs.Answers.{bare}
@@ -21,23 +20,27 @@ use Rattle.filter.specs.Reader.{Hole, first, head, depth, ReaderState, want, hav
 use Rattle.filter.specs.Reader.{settle, outer, answered, walk, read}
 use Rattle.filter.specs.Answering.{refusal_of, start_of, place_of}
 use Rattle.filter.specs.declared.Role.{Role}
-use Rattle.filter.specs.declared.Role.TheVariants.{And, Or, Loops, Bogons, Named, Unknown}
+use Rattle.filter.specs.declared.Role.TheVariants.{And, Or, Loops, Bogons, Named}
 use Rattle.filter.specs.declared.Refusal.{Refusal}
-use Rattle.filter.specs.declared.Parsed.{Parsed}
-use Rattle.filter.specs.declared.Parsed.TheVariants.{Upto, Refused}
+use Rattle.filter.specs.declared.Refused.{Refused}
+use Rattle.filter.specs.declared.Upto.{Upto}
+
+-- what the code's roles are
+abbrev pub role_meant : Role → words.Role
+role_meant And = joins and
+role_meant Or = joins or
+role_meant Loops = flag has_loop
+role_meant Bogons = flag has_bogon
+role_meant (Named k) = name k
 
 -- what the code's answer says of a word
-abbrev pub role_said : Role → Option words.Role
-role_said And = Some (joins and)
-role_said Or = Some (joins or)
-role_said Loops = Some (flag has_loop)
-role_said Bogons = Some (flag has_bogon)
-role_said (Named k) = Some (name k)
-role_said Unknown = None
+abbrev pub role_said : Option Role → Option words.Role
+role_said (Some r) = Some (role_meant r)
+role_said None = None
 
--- the rows of the tests that have an operand
-abbrev pub operand_rows : List (Row words.Role)
-operand_rows = drop 4 vocabulary
+-- a refusal at a place
+abbrev pub refused_at : Refusal → ℕ → Refused
+refused_at k q = record { refusal = k; place = q }
 
 -- a word or a quoted token
 abbrev pub operand_sort : Sort → Bool
@@ -137,13 +140,13 @@ pub record Stopped (p : Part) (text : List ℕ) (level : ℕ) (t : Lexeme) (refu
   pub stops : (h : Hole p) → depth h ≡ level → run (begins p h) (from text t) ≡ refused why (bare rest)
 
 -- what the function of a part says of its answer: a part was read up to there, and goes on no further; or it is refused
-pub record PartSays (p : Part) (text : List ℕ) (level : ℕ) (t : Lexeme) (n : ℕ) (old : List ℕ) (r : Parsed) (new : List ℕ) : Type 0 where
-  pub upto : (u : Lexeme) (m : ℕ) → r ≡ Upto u m → Read p text level t n old u m new
-  pub over : (u : Lexeme) (m : ℕ) → r ≡ Upto u m → Over p (from text u)
-  pub refused : (k : Refusal) (q : ℕ) → r ≡ Refused k q → Stopped p text level t k q
+pub record PartSays (p : Part) (text : List ℕ) (level : ℕ) (t : Lexeme) (n : ℕ) (old : List ℕ) (r : Result Upto Refused) (new : List ℕ) : Type 0 where
+  pub upto : (u : Upto) → r ≡ Ok u → Read p text level t n old u.next u.n new
+  pub over : (u : Upto) → r ≡ Ok u → Over p (from text u.next)
+  pub refused : (x : Refused) → r ≡ Err x → Stopped p text level t x.refusal x.place
 
 -- the same for a test, whatever levels are open
-pub record TestSays (text : List ℕ) (t : Lexeme) (n : ℕ) (old : List ℕ) (r : Parsed) (new : List ℕ) : Type 0 where
+pub record TestSays (text : List ℕ) (t : Lexeme) (n : ℕ) (old : List ℕ) (r : Result Upto Refused) (new : List ℕ) : Type 0 where
   pub says : (level : ℕ) → PartSays factor text level t n old r new
 
 -- a whole text is read, and its records were laid over the buffer as far as it reaches
@@ -163,6 +166,6 @@ pub record WholeStopped (text : List ℕ) (k : Refusal) (place : ℕ) : Type 0 w
   pub there : place_of (length text) (left text 0) rest ≡ place
 
 -- a whole text: read, or refused
-pub record Whole (text : List ℕ) (old : List ℕ) (r : Parsed) (new : List ℕ) : Type 0 where
-  pub upto : (u : Lexeme) (m : ℕ) → r ≡ Upto u m → WholeRead text old m new
-  pub refused : (k : Refusal) (q : ℕ) → r ≡ Refused k q → WholeStopped text k q
+pub record Whole (text : List ℕ) (old : List ℕ) (r : Result ℕ Refused) (new : List ℕ) : Type 0 where
+  pub read : (n : ℕ) → r ≡ Ok n → WholeRead text old n new
+  pub refused : (x : Refused) → r ≡ Err x → WholeStopped text x.refusal x.place

@@ -5,7 +5,6 @@ ghost use Rattle.std.specs.Prelude.{◌≡◌, ◌≤◌, length, MatchResult};
 ghost use Rattle.grainlantern.specs.Refusal.{refusal_text, RefusedAt};
 ghost use Rattle.grainlantern.specs.Output.{Lent, kept_lines, OfRun};
 
-use filter::Compiled;
 use judge::{Judged, Tally};
 use run::Ran;
 use std::fs;
@@ -164,13 +163,8 @@ fn main(rt: HostRuntime) {
     let mut text = [0u8; FILTER_ROOM];
     let mut program = [0u8; program::PROGRAM_LIMIT];
     let length = read_filter(&rt, &mut text);
-    let compiled = filter::compile(octets::part(&text, 0, length), &mut program);
-    match compiled {
-        Compiled::Refused(refusal, at) => {
-            let number = filter::number_of(refusal);
-            let place = at as u32;
-            refuse(&rt, number, place);
-        }
-        Compiled::Program(size) => filter_records(&rt, octets::part(&program, 0, size)),
+    match filter::compile(octets::part(&text, 0, length), &mut program) {
+        Err(refused) => refuse(&rt, u32::from(refused.refusal), refused.place as u32),
+        Ok(size) => filter_records(&rt, octets::part(&program, 0, size)),
     }
 }

@@ -9,7 +9,6 @@ ghost use Rattle.grainlantern_c.specs.Judgements.{judged_for_c};
 ghost use Rattle.grainlantern_c.specs.Programs.{compiled_for_c};
 ghost use Rattle.grainlantern_c.specs.Steps.{step_for_c};
 
-use filter::Compiled;
 use judge::{Judged, Tally};
 use walk::Step;
 
@@ -26,13 +25,12 @@ fn answer(value: &mut [u64; 4], number: u32, first: u64) -> u32
 pub extern "C" fn grainlantern_compile(text: &[u8], program: &mut [u8], value: &mut [u64; 4]) -> u32
     ensures { (result, value.new, program.new) ≡ compiled_for_c (our_compiler text.now program.old) }
 {
-    let compiled = filter::compile(text, program);
-    match compiled {
-        Compiled::Program(bytes) => answer(value, 0, bytes as u64),
-        Compiled::Refused(refusal, place) => answer(
+    match filter::compile(text, program) {
+        Ok(bytes) => answer(value, 0, bytes as u64),
+        Err(refused) => answer(
             value,
-            filter::number_of(refusal),
-            place as u64,
+            u32::from(refused.refusal),
+            refused.place as u64,
         ),
     }
 }

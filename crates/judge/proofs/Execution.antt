@@ -3,7 +3,7 @@ use Prim.Native.Nat.{ℕ, zero, suc, ◌+◌, ◌*◌, ◌≤◌, ◌<◌}
 use native.Mathlib.Omega.{arith}
 use mathlib.Core.Path.{◌≡◌, refl, sym, ap, ◌∙◌}
 use mathlib.Core.Bool.{Bool, not}
-use Rattle.std.specs.Prelude.{Some}
+use Rattle.std.specs.Prelude.{Option, None, Some}
 use mathlib.Core.List.{List, ◌∷◌, ◌++◌}
 use lib.ListN.{length, get_or, take, drop, length-drop, drop_of_length-le}
 use lib.Seq.{drop-drop, drop-cons}
@@ -13,7 +13,7 @@ use Rattle.message.specs.Message.{Message}
 use Rattle.program.specs.declared.Fields.{Fields}
 use Rattle.program.specs.declared.Spent.{Spent}
 use Rattle.program.specs.declared.Class.{Class}
-use Rattle.program.specs.declared.Class.TheVariants.{Test as aTest, Item as an_item, Flip as aFlip, Pass as aPass, Unknown as unknown}
+use Rattle.program.specs.declared.Class.TheVariants.{Test as aTest, Item as an_item, Flip as aFlip, Pass as aPass}
 use Rattle.program.specs.Spent.{one_step, together}
 use Rattle.program.specs.Readings.{and, or, open'}
 use Rattle.program.specs.Records.{Record, head, item, flip, pass, count_of}
@@ -31,20 +31,20 @@ use Rattle.judge.specs.Executing.{passed_over, on_from, state_by, state_after}
 -- ---- the state after a record, of whatever program
 
 -- a record is at most one step
-few_steps : (c : Class) (f : Fields) (truth : Bool) (s : MachineState) → (state_by c f truth s).spent.steps ≤ suc s.spent.steps
-few_steps aTest f truth s = omega arith
-few_steps an_item f truth s = omega arith
-few_steps aFlip f truth s = omega arith
-few_steps aPass f truth s = omega arith
-few_steps unknown f truth s = omega arith
+few_steps : (c : Option Class) (f : Fields) (truth : Bool) (s : MachineState) → (state_by c f truth s).spent.steps ≤ suc s.spent.steps
+few_steps (Some aTest) f truth s = omega arith
+few_steps (Some an_item) f truth s = omega arith
+few_steps (Some aFlip) f truth s = omega arith
+few_steps (Some aPass) f truth s = omega arith
+few_steps None f truth s = omega arith
 
 -- the place is further by a record at least
-far_on : (c : Class) (f : Fields) (truth : Bool) (s : MachineState) → s.at + record_size ≤ (state_by c f truth s).at
-far_on aTest f truth s = omega arith
-far_on an_item f truth s = omega arith
-far_on aFlip f truth s = omega arith
-far_on aPass f truth s = omega arith
-far_on unknown f truth s = omega arith
+far_on : (c : Option Class) (f : Fields) (truth : Bool) (s : MachineState) → s.at + record_size ≤ (state_by c f truth s).at
+far_on (Some aTest) f truth s = omega arith
+far_on (Some an_item) f truth s = omega arith
+far_on (Some aFlip) f truth s = omega arith
+far_on (Some aPass) f truth s = omega arith
+far_on None f truth s = omega arith
 
 -- past no other
 pub on_next : (s : MachineState) (flag : Bool) (spent : Spent) → record { at = s.at + record_size; flag = flag; spent = spent } ≡ on_from s 0 flag spent
@@ -52,11 +52,11 @@ on_next s flag spent = ap (λ (n : ℕ). record { at = n; flag = flag; spent = s
 
 module _ (m : Message) (program : List ℕ) (s : MachineState) where
   -- it goes by the class of the fields read
-  pub after_class : (f : Fields) → f ≡ fields_in (drop s.at program) → (x : Class) → class_is f.kind ≡ x
+  pub after_class : (f : Fields) → f ≡ fields_in (drop s.at program) → (x : Option Class) → class_is f.kind ≡ x
       → state_by x f (truth_at m program s.at) s ≡ state_after m program s
   unfolding state_after
   after_class f e x c =
-      ap (λ (y : Class). state_by y f (truth_at m program s.at) s) (sym c)
+      ap (λ (y : Option Class). state_by y f (truth_at m program s.at) s) (sym c)
       ∙ ap (λ (g : Fields). state_by (class_is g.kind) g (truth_at m program s.at) s) e
 
   pub further : s.at + record_size ≤ (state_after m program s).at
@@ -115,15 +115,15 @@ module _ (m : Message) (program : List ℕ) {rs : List Record} (r : Right progra
 
   module _ (k : ℕ) (h : k < length rs) (s : MachineState) (at_k : s.at ≡ record_size * k) where
     -- by the record there
-    by_record : (x : Record) → get_or rs k flip ≡ x → state_after m program s ≡ state_by (class_of x) (fields_of x) (truth_of m (Some x) (drop (suc k) rs)) s
+    by_record : (x : Record) → get_or rs k flip ≡ x → state_after m program s ≡ state_by (Some (class_of x)) (fields_of x) (truth_of m (Some x) (drop (suc k) rs)) s
     unfolding state_after
     by_record x e =
         let f : fields_in (drop s.at program) ≡ fields_of x = ap (λ (n : ℕ). fields_in (drop n program)) at_k ∙ fields_here k h ∙ ap fields_of e in
         let t : truth_at m program s.at ≡ truth_of m (Some x) (drop (suc k) rs)
         = ap (truth_at m program) at_k ∙ truth_here k h ∙ ap (λ (y : Record). truth_of m (Some y) (drop (suc k) rs)) e in
         ap (λ (g : Fields). state_by (class_is g.kind) g (truth_at m program s.at) s) f
-        ∙ ap (λ (c : Class). state_by c (fields_of x) (truth_at m program s.at) s) (class_kind x)
-        ∙ ap (λ (b : Bool). state_by (class_of x) (fields_of x) b s) t
+        ∙ ap (λ (c : Option Class). state_by c (fields_of x) (truth_at m program s.at) s) (class_kind x)
+        ∙ ap (λ (b : Bool). state_by (Some (class_of x)) (fields_of x) b s) t
 
     machine_at : (x : Record) → get_or rs k flip ≡ x → exec (record_truth m) zero s.flag s.spent (x ∷ drop (suc k) rs) ≡ goes k s.flag s.spent
     machine_at x e = ap (exec (record_truth m) zero s.flag s.spent) (ap (λ (y : Record). y ∷ drop (suc k) rs) (sym e) ∙ sym (drop-cons rs k flip h))

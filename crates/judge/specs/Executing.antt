@@ -1,5 +1,5 @@
 -- What the parts of judging compute: the machine a record at a time, and an answer with what it counts as.
-use Rattle.std.specs.Prelude.{ℕ, ◌+◌, ◌*◌, ◌≡◌, Bool, not, List, drop, eqb}
+use Rattle.std.specs.Prelude.{ℕ, ◌+◌, ◌*◌, ◌≡◌, Bool, not, Option, None, Some, List, drop, eqb}
 use Rattle.octets.specs.Choice.{pick}
 use Rattle.message.specs.Message.{Message}
 use Rattle.message.specs.declared.Decoded.{Decoded}
@@ -7,7 +7,7 @@ use Rattle.message.specs.declared.Decoded.TheVariants.{Read as decoded_read, Ref
 use Rattle.program.specs.declared.Fields.{Fields}
 use Rattle.program.specs.declared.Spent.{Spent}
 use Rattle.program.specs.declared.Class.{Class}
-use Rattle.program.specs.declared.Class.TheVariants.{Test, Item, Flip, Pass, Unknown}
+use Rattle.program.specs.declared.Class.TheVariants.{Test, Item, Flip, Pass}
 use Rattle.program.specs.Spent.{one_step, together}
 use Rattle.program.specs.Kinds.{and_kind, class_is}
 use Rattle.program.specs.Layout.{record_size, fields_in}
@@ -50,12 +50,12 @@ abbrev pub on_from : MachineState → ℕ → Bool → Spent → MachineState
 on_from s over flag spent = record { at = s.at + record_size + record_size * over; flag = flag; spent = spent }
 
 -- the state after a record of a class and these fields, if it is true or not as a test
-abbrev pub state_by : Class → Fields → Bool → MachineState → MachineState
-state_by Test f truth s = on_from s (following_in f) truth (together s.spent one_step)
-state_by Item f truth s = on_from s 0 s.flag s.spent
-state_by Flip f truth s = on_from s 0 (not s.flag) (together s.spent one_step)
-state_by Pass f truth s = on_from s (passed_over f s.flag) s.flag (together s.spent one_step)
-state_by Unknown f truth s = on_from s 0 s.flag s.spent
+abbrev pub state_by : Option Class → Fields → Bool → MachineState → MachineState
+state_by (Some Test) f truth s = on_from s (following_in f) truth (together s.spent one_step)
+state_by (Some Item) f truth s = on_from s 0 s.flag s.spent
+state_by (Some Flip) f truth s = on_from s 0 (not s.flag) (together s.spent one_step)
+state_by (Some Pass) f truth s = on_from s (passed_over f s.flag) s.flag (together s.spent one_step)
+state_by None f truth s = on_from s 0 s.flag s.spent
 
 -- the state after the record at its place
 unfoldable pub state_after : Message → List ℕ → MachineState → MachineState

@@ -17,7 +17,7 @@ ghost use Rattle.judge.specs.Executing.{unread_of, tally_of, JudgedAs, passed_ov
 
 use line::Wrote;
 use message::{Decoded, Parts, Refusal as RecordRefusal};
-use program::{Class, Fields, Spent};
+use program::{Class, Fields, Kind, Spent};
 
 // A count that can't grow.
 const FULL_COUNT: u32 = 4294967295;
@@ -94,19 +94,14 @@ fn past(next: usize, count: u32) -> usize
 }
 
 // The records that a pass passes over: none where the flag doesn't decide.
+#[tactic(auto, using(program::proofs::KindLaws::kind_test), unfolding(crate::specs::Executing::passed_over))]
 fn passed_over(f: Fields, flag: bool) -> u32
     ensures { result ≡ passed_over f flag }
 {
-    if f.kind == program::AND {
-        if flag {
-            return 0;
-        }
-        return f.count;
+    if (program::kind_of(f.kind) == Some(Kind::And)) == flag {
+        return 0;
     }
-    if flag {
-        return f.count;
-    }
-    0
+    f.count
 }
 
 // The state after the record at its place. What can't stand there is passed over.
@@ -119,33 +114,24 @@ fn step(program: &[u8], bytes: &[u8], parts: Parts, state: MachineState) -> Mach
     let spent = state.spent;
     let f = program::fields_at(program, at);
     let next = at + program::RECORD_SIZE;
-    let class = program::class_of(f.kind);
-    match class {
-        Class::Test => MachineState {
+    match program::class_of(f.kind) {
+        Some(Class::Test) => MachineState {
             at: past(next, program::following(f)),
             flag: truth::holds(program, at, bytes, parts),
             spent: stepped(spent),
         },
-        Class::Flip => MachineState {
+        Some(Class::Flip) => MachineState {
             at: next,
             flag: !flag,
             spent: stepped(spent),
         },
-        Class::Pass => MachineState {
+        Some(Class::Pass) => MachineState {
             at: past(next, passed_over(f, flag)),
             flag,
             spent: stepped(spent),
         },
-        Class::Item => MachineState {
-            at: next,
-            flag,
-            spent,
-        },
-        Class::Unknown => MachineState {
-            at: next,
-            flag,
-            spent,
-        },
+        Some(Class::Item) => MachineState { at: next, ..state },
+        None => MachineState { at: next, ..state },
     }
 }
 

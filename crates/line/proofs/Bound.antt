@@ -4,7 +4,7 @@ use native.Mathlib.Omega.{arith}
 use mathlib.Core.Path.{◌≡◌}
 use mathlib.Core.Bool.{Bool, true, false}
 use mathlib.Core.List.{List, [], ◌∷◌}
-use Rattle.std.specs.Prelude.{Option, option_map}
+use Rattle.std.specs.Prelude.{Option, Some, None, option_map}
 use lib.Dec.{ltb, eqb}
 use lib.ListN.{length, take, drop, length-append, length-take, length-drop}
 use borrow.Author.Tests.{ltb-false, leb-true}
@@ -21,8 +21,7 @@ use Rattle.network.proofs.Texts.{address_text_length}
 use Rattle.aspath.specs.declared.Width.{Width}
 use Rattle.aspath.specs.declared.Width.TheVariants.{Two, Four}
 use Rattle.aspath.specs.Wire.{width_bytes}
-use Rattle.attributes.specs.declared.Found.{Found}
-use Rattle.attributes.specs.declared.Found.TheVariants.{At, Absent}
+use Rattle.attributes.specs.declared.Body.{Body}
 use Rattle.attributes.specs.Attribute.{Attribute, first_of}
 use Rattle.attributes.specs.Bodies.{aggregator_of, attributes_of}
 use Rattle.attributes.specs.Finding.{body_at, find_of}
@@ -46,9 +45,9 @@ field_short : {A : Type 0} {w : ℕ} {ask : Attribute → Option A} {give : List
     → ((start len : ℕ) → length (text (give (take len (drop start s)))) ≤ k) → length (optional text (first_of ask (attributes_of w s))) ≤ k
 field_short {give = give} {code = code} asks text k s each = rw (first_found asks s) (go (find_of code s))
   where
-    go : (f : Found) → length (optional text (option_map give (body_at s f))) ≤ k
-    go (At start len) = unfold optional in each start len
-    go Absent = unfold optional in omega arith
+    go : (f : Option Body) → length (optional text (option_map give (body_at s f))) ≤ k
+    go (Some b) = unfold optional in each b.start b.len
+    go None = unfold optional in omega arith
 
 -- an origin is a letter
 origin_short : (n : ℕ) → length (origin_text n) ≤ 1

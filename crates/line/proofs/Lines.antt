@@ -1,8 +1,12 @@
 -- Laws of a line, which has text just where there are prefixes, and of both lines. Assumes nothing.
-use Prim.Native.Nat.{ℕ}
+use Prim.Native.Nat.{ℕ, zero, suc}
+use native.Mathlib.Omega.{arith}
+use mathlib.Core.Bool.{true, false}
+use Rattle.std.specs.Option.{is_some}
 use mathlib.Core.Path.{◌≡◌, refl, sym, ap, ◌∙◌}
 use mathlib.Core.List.{List, [], ◌∷◌, ◌++◌, append_assoc}
-use Rattle.octets.specs.Rows.{items_in}
+use Rattle.octets.specs.Rows.{sized, items_in}
+use Rattle.octets.proofs.Choices.{never}
 use Rattle.octets.specs.Writes.{Written}
 use Rattle.octets.proofs.Rows.{items_next, items_end}
 use Rattle.octets.proofs.Writes.{both}
@@ -16,6 +20,16 @@ use Rattle.message.specs.declared.Parts.{Parts}
 use Rattle.message.specs.Decode.{part_of, networks_of, message_at}
 use Rattle.line.specs.Text.{bar, following, separated, prefixes_text}
 use Rattle.line.specs.Line.{attribute_fields, closing_fields, line_of, lines_of}
+
+-- where no size is there it is 0
+pub no_size : {n : ℕ} → is_some (sized n) ≡ false → n ≡ 0
+no_size {n = zero} e = refl
+no_size {n = suc n} e = never (sym e)
+
+-- and where one is it isn't
+pub some_size : {n : ℕ} → is_some (sized n) ≡ true → n ≡ 0 → ⊥
+some_size {n = zero} e z = never e
+some_size {n = suc n} e z = omega arith
 
 -- texts after others, each after a separator
 following_append : (separator : ℕ) (xs ys : List (List ℕ)) → following separator (xs ++ ys) ≡ following separator xs ++ following separator ys

@@ -2,3 +2,4 @@
 pub mod Text
 pub mod Line
 pub mod Answer
+pub mod Field

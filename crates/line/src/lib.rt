@@ -1,21 +1,27 @@
 // The printed lines of a message. A writer lays its text over the buffer as far as it reaches and answers the place after it.
 #![tactic(auto)]
 
-ghost use Rattle.std.specs.Prelude.{◌≡◌, [], ◌∷◌, ◌++◌, map, ◌+◌, ◌*◌, ◌≤◌, drop, length};
+ghost use Rattle.std.specs.Prelude.{◌≡◌, ℕ, List, [], ◌∷◌, ◌++◌, map, ◌+◌, ◌*◌, ◌≤◌, drop, get_or, length};
 ghost use Rattle.octets.specs.Writes.{Written};
 ghost use Rattle.octets.specs.Decimal.{decimal};
+ghost use Rattle.octets.specs.Numbers.{number_at};
+ghost use Rattle.network.specs.Networks.{address_size};
+ghost use Rattle.network.specs.Text.{address_text};
 ghost use Rattle.aspath.specs.Wire.{width_bytes, segment_size, segment_of, numbers_in, segments_of};
 ghost use Rattle.communities.specs.Communities.{communities_of};
-ghost use Rattle.attributes.specs.Bodies.{attributes_of};
+ghost use Rattle.attributes.specs.Bodies.{aggregator_of, attributes_of};
+ghost use Rattle.attributes.specs.Finding.{body_at, find_of};
 ghost use Rattle.message.specs.Decode.{networks_of, message_at};
-ghost use Rattle.line.specs.Text.{bar, separated, following, prefixes_text, segment_text, path_text, communities_text};
-ghost use Rattle.line.specs.Line.{path_field, next_hop_field, origin_field, atomic_field, aggregator_field, communities_field, origin_text};
+ghost use Rattle.line.specs.Field.{Writes};
+ghost use Rattle.line.specs.Text.{bar, separated, following, optional, prefixes_text, segment_text, path_text, communities_text};
+ghost use Rattle.line.specs.Line.{origin_text, atomic_text, aggregator_text};
 ghost use Rattle.line.specs.Line.{width_text, attribute_fields, closing_fields, line_of, lines_of};
 ghost use Rattle.line.specs.Answer.{is_ample, writing_of, writing};
 
 use aspath::Width;
-use attributes::Found;
+use communities::Communities;
 use message::{MESSAGE_LIMIT, Parts};
+use network::Networks;
 
 // The room that suffices for the lines of every readable record.
 pub const LINE_ROOM: usize = 65536;
@@ -31,20 +37,14 @@ pub enum Wrote {
 fn put_prefixes(out: &mut [u8], at: usize, s: &[u8]) -> usize
     ensures { Written out.old at (prefixes_text (networks_of s.now)) out.new result }
 {
-    let first = network::prefix_size(s, 0);
-    if first == 0 {
+    let mut networks = Networks(s);
+    let Some(first) = networks.next() else {
         return at;
-    }
-    let mut place = network::put_network(out, at, network::network_at(s, 0));
-    let mut p = first;
-    loop {
-        let size = network::prefix_size(s, p);
-        if size == 0 {
-            break;
-        }
+    };
+    let mut place = network::put_network(out, at, first);
+    for n in networks {
         place = octets::put(out, place, b' ');
-        place = network::put_network(out, place, network::network_at(s, p));
-        p += size;
+        place = network::put_network(out, place, n);
     }
     place
 }
@@ -98,17 +98,12 @@ fn put_segment(out: &mut [u8], at: usize, s: &[u8], p: usize, width: Width) -> u
 fn put_path(out: &mut [u8], at: usize, s: &[u8], width: Width) -> usize
     ensures { Written out.old at (path_text (segments_of (width_bytes width) s.now)) out.new result }
 {
-    let first = aspath::segment_size(s, 0, width);
-    if first == 0 {
+    let Some(first) = aspath::segment_size(s, 0, width) else {
         return at;
-    }
+    };
     let mut place = put_segment(out, at, s, 0, width);
     let mut p = first;
-    loop {
-        let size = aspath::segment_size(s, p, width);
-        if size == 0 {
-            break;
-        }
+    while let Some(size) = aspath::segment_size(s, p, width) {
         let next = octets::put(out, place, b' ');
         place = put_segment(out, next, s, p, width);
         p += size;
@@ -116,36 +111,30 @@ fn put_path(out: &mut [u8], at: usize, s: &[u8], width: Width) -> usize
     place
 }
 
-// AS_PATH after a bar.
-fn put_path_field(out: &mut [u8], at: usize, s: &[u8], width: Width) -> usize
-    ensures { Written out.old at
-        ((bar ∷ []) ++ path_field (attributes_of (width_bytes width) s.now))
-        out.new result }
+// A field after a bar: what a writer makes of the body of the first attribute with a code, nothing where there is none.
+fn put_field<F: FnOnce(&mut [u8], usize, &[u8]) -> usize>(
+    out: &mut [u8],
+    at: usize,
+    s: &[u8],
+    code: u8,
+    put_body: F,
+) -> usize
+    requires { F.IsAlwaysCallable put_body }
+    ensures { (text : List ℕ → List ℕ) → Writes (F.post put_body) text
+        → Written out.old at ((bar ∷ []) ++ optional text (body_at s.now (find_of code s.now))) out.new result }
 {
     let place = octets::put(out, at, b'|');
-    let found = attributes::find(s, attributes::AS_PATH);
-    let Found::At { start, len } = found else {
+    let Some(body) = attributes::find(s, code) else {
         return place;
     };
-    put_path(out, place, octets::part(s, start, len), width)
+    put_body(out, place, octets::part(s, body.start, body.len))
 }
 
-// NEXT_HOP after a bar.
-fn put_next_hop_field(out: &mut [u8], at: usize, s: &[u8], width: Width) -> usize
-    ensures { Written out.old at
-        ((bar ∷ []) ++ next_hop_field (attributes_of (width_bytes width) s.now))
-        out.new result }
+// The address of a NEXT_HOP.
+fn put_next_hop(out: &mut [u8], at: usize, body: &[u8]) -> usize
+    ensures { Written out.old at (address_text (number_at body.now 0 address_size)) out.new result }
 {
-    let place = octets::put(out, at, b'|');
-    let found = attributes::find(s, attributes::NEXT_HOP);
-    let Found::At { start, len } = found else {
-        return place;
-    };
-    network::put_address(
-        out,
-        place,
-        octets::number(octets::part(s, start, len), 0, network::ADDRESS_SIZE),
-    )
+    network::put_address(out, at, octets::number(body, 0, network::ADDRESS_SIZE))
 }
 
 // The letter of an origin.
@@ -159,53 +148,30 @@ fn origin_letter(n: u32) -> u8
     }
 }
 
-// ORIGIN after a bar.
-fn put_origin_field(out: &mut [u8], at: usize, s: &[u8], width: Width) -> usize
-    ensures { Written out.old at
-        ((bar ∷ []) ++ origin_field (attributes_of (width_bytes width) s.now))
-        out.new result }
+// The letter of an ORIGIN.
+fn put_origin(out: &mut [u8], at: usize, body: &[u8]) -> usize
+    ensures { Written out.old at (origin_text (get_or body.now 0 0)) out.new result }
 {
-    let place = octets::put(out, at, b'|');
-    let found = attributes::find(s, attributes::ORIGIN);
-    let Found::At { start, len } = found else {
-        return place;
-    };
     octets::put(
         out,
-        place,
-        origin_letter(octets::number(octets::part(s, start, len), 0, attributes::ORIGIN_SIZE)),
+        at,
+        origin_letter(octets::number(body, 0, attributes::ORIGIN_SIZE)),
     )
 }
 
-// ATOMIC_AGGREGATE after a bar.
-fn put_atomic_field(out: &mut [u8], at: usize, s: &[u8], width: Width) -> usize
-    ensures { Written out.old at
-        ((bar ∷ []) ++ atomic_field (attributes_of (width_bytes width) s.now))
-        out.new result }
+// An ATOMIC_AGGREGATE, whose body says nothing.
+fn put_atomic(out: &mut [u8], at: usize, _body: &[u8]) -> usize
+    ensures { Written out.old at (atomic_text tt) out.new result }
 {
-    let place = octets::put(out, at, b'|');
-    let found = attributes::find(s, attributes::ATOMIC_AGGREGATE);
-    let Found::At { start: _, len: _ } = found else {
-        return place;
-    };
-    let place = octets::put(out, place, b'A');
-    octets::put(out, place, b'T')
+    octets::put_bytes(out, at, b"AT")
 }
 
-// AGGREGATOR after a bar.
-fn put_aggregator_field(out: &mut [u8], at: usize, s: &[u8], width: Width) -> usize
-    ensures { Written out.old at
-        ((bar ∷ []) ++ aggregator_field (attributes_of (width_bytes width) s.now))
-        out.new result }
+// The number and the address of an AGGREGATOR.
+fn put_aggregator(out: &mut [u8], at: usize, body: &[u8], width: Width) -> usize
+    ensures { Written out.old at (aggregator_text (aggregator_of (width_bytes width) body.now)) out.new result }
 {
-    let place = octets::put(out, at, b'|');
-    let found = attributes::find(s, attributes::AGGREGATOR);
-    let Found::At { start, len } = found else {
-        return place;
-    };
-    let body = octets::part(s, start, len);
     let w = aspath::width_bytes(width);
-    let place = octets::put_decimal(out, place, octets::number(body, 0, w));
+    let place = octets::put_decimal(out, at, octets::number(body, 0, w));
     let place = octets::put(out, place, b' ');
     network::put_address(out, place, octets::number(body, w, network::ADDRESS_SIZE))
 }
@@ -214,31 +180,16 @@ fn put_aggregator_field(out: &mut [u8], at: usize, s: &[u8], width: Width) -> us
 fn put_communities(out: &mut [u8], at: usize, body: &[u8]) -> usize
     ensures { Written out.old at (communities_text (communities_of body.now)) out.new result }
 {
-    if body.len() < communities::SIZE {
+    let mut held = Communities(body);
+    let Some(first) = held.next() else {
         return at;
-    }
-    let mut place = communities::put_community(out, at, octets::number(body, 0, communities::SIZE));
-    let mut p = communities::SIZE;
-    while communities::SIZE <= body.len() - p {
+    };
+    let mut place = communities::put_community(out, at, first);
+    for community in held {
         place = octets::put(out, place, b' ');
-        place = communities::put_community(out, place, octets::number(body, p, communities::SIZE));
-        p += communities::SIZE;
+        place = communities::put_community(out, place, community);
     }
     place
-}
-
-// COMMUNITIES after a bar.
-fn put_communities_field(out: &mut [u8], at: usize, s: &[u8], width: Width) -> usize
-    ensures { Written out.old at
-        ((bar ∷ []) ++ communities_field (attributes_of (width_bytes width) s.now))
-        out.new result }
-{
-    let place = octets::put(out, at, b'|');
-    let found = attributes::find(s, attributes::COMMUNITY);
-    let Found::At { start, len } = found else {
-        return place;
-    };
-    put_communities(out, place, octets::part(s, start, len))
 }
 
 // The fields of the attributes, each after a bar.
@@ -247,12 +198,16 @@ fn put_attributes(out: &mut [u8], at: usize, s: &[u8], width: Width) -> usize
         (following bar (attribute_fields (attributes_of (width_bytes width) s.now)))
         out.new result }
 {
-    let place = put_path_field(out, at, s, width);
-    let place = put_next_hop_field(out, place, s, width);
-    let place = put_origin_field(out, place, s, width);
-    let place = put_atomic_field(out, place, s, width);
-    let place = put_aggregator_field(out, place, s, width);
-    put_communities_field(out, place, s, width)
+    let place = put_field(out, at, s, attributes::AS_PATH, |out, at, body| {
+        put_path(out, at, body, width)
+    });
+    let place = put_field(out, place, s, attributes::NEXT_HOP, put_next_hop);
+    let place = put_field(out, place, s, attributes::ORIGIN, put_origin);
+    let place = put_field(out, place, s, attributes::ATOMIC_AGGREGATE, put_atomic);
+    let place = put_field(out, place, s, attributes::AGGREGATOR, |out, at, body| {
+        put_aggregator(out, at, body, width)
+    });
+    put_field(out, place, s, attributes::COMMUNITY, put_communities)
 }
 
 // The digit that tells the width.
@@ -300,7 +255,7 @@ fn put_line(
         (closing_fields parts.address parts.peer parts.seconds parts.width))
         out.new result }
 {
-    if network::prefix_size(prefixes, 0) == 0 {
+    if network::prefix_size(prefixes, 0).is_none() {
         return at;
     }
     let width = parts.width;

@@ -62,24 +62,6 @@ module _ {A : Type 0} where
   in_place (r ∷ rs) d zero h = here
   in_place (r ∷ rs) d (suc i) h = there (in_place rs d i (omega arith))
 
-  -- ---- a word compared with one row after another
-
-  -- a word that was found the same as a row's, where the words differ
-  pub row_found : (rows : List (Row A)) (d : Row A) → distinct rows ≡ true → (i : ℕ) (w : List ℕ) {b : Bool} → i < length rows → b ≡ same w (get_or rows i d).word → b ≡ true
-      → found rows w ≡ Some (get_or rows i d).value
-  row_found rows d u i w h p e = rw (same_true w (get_or rows i d).word (sym p ∙ e)) (found_row u (in_place rows d i h))
-
-  -- rows that a word was found to differ from, up to those that are left
-  pub data Missed (w : List ℕ) : List (Row A) → List (Row A) → Type 0 where
-    none_missed : {rest : List (Row A)} → Missed w rest rest
-    one_missed : {r : Row A} {rs rest : List (Row A)} {b : Bool} → b ≡ same w r.word → b ≡ false → Missed w rs rest → Missed w (r ∷ rs) rest
-
-  -- a word is found in the rows that are left
-  pub missed_found : {w : List ℕ} {rows rest : List (Row A)} → Missed w rows rest → found rows w ≡ found rest w
-  unfolding found
-  missed_found none_missed = refl
-  missed_found (one_missed d e m) = rw (sym d ∙ e) (missed_found m)
-
 -- ---- the word of a value
 
 -- what holds of each word of a value and of another text holds of the first such word, or else of that text

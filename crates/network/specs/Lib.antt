@@ -2,3 +2,4 @@
 pub mod Networks
 pub mod Wire
 pub mod Text
+pub mod Left

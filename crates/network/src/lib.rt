@@ -2,7 +2,7 @@
 #![tactic(auto)]
 
 ghost use Rattle.std.specs.Prelude.{◌≡◌, drop};
-ghost use Rattle.octets.specs.Rows.{whole};
+ghost use Rattle.octets.specs.Rows.{sized, whole};
 ghost use Rattle.octets.specs.Writes.{Written};
 ghost use Rattle.network.specs.Networks.{address_bits, masked, network_in, covers, relates};
 ghost use Rattle.network.specs.Wire.{prefix_size, network_of};
@@ -14,14 +14,14 @@ pub const ADDRESS_SIZE: usize = 4;
 
 const LONGEST_PREFIX: usize = ADDRESS_BITS as usize;
 
-#[derive(Clone, Copy)]
+#[derive(Clone, Copy, PartialEq, Eq, Debug)]
 pub struct Network {
     pub address: u32,
     pub len: u32,
 }
 
 // How a prefix of a message stands to an operand: the same network, one that covers it, one that it covers, or either.
-#[derive(Clone, Copy)]
+#[derive(Clone, Copy, PartialEq, Eq, Debug)]
 pub enum Relation {
     Exact,
     Supernet,
@@ -57,43 +57,34 @@ fn covering(a: Network, b: Network) -> bool
 }
 
 // Whether a prefix stands to an operand as the relation says.
+#[tactic(auto, unfolding(crate::specs::Networks::relates))]
 pub fn related(relation: Relation, operand: Network, prefix: Network) -> bool
     ensures { result ≡ relates relation (network_in operand) (network_in prefix) }
 {
     match relation {
-        Relation::Exact => {
-            if operand.address != prefix.address {
-                return false;
-            }
-            operand.len == prefix.len
-        }
+        Relation::Exact => operand == prefix,
         Relation::Supernet => covering(prefix, operand),
         Relation::Subnet => covering(operand, prefix),
-        Relation::Related => {
-            if covering(prefix, operand) {
-                return true;
-            }
-            covering(operand, prefix)
-        }
+        Relation::Related => covering(prefix, operand) || covering(operand, prefix),
     }
 }
 
-// The bytes of the prefix at a place, 0 where no whole prefix stands there.
-pub fn prefix_size(s: &[u8], at: usize) -> usize
-    ensures { result ≡ prefix_size address_bits (drop at s.now) }
+// The bytes of the prefix at a place, where a whole one stands there.
+pub fn prefix_size(s: &[u8], at: usize) -> Option<usize>
+    ensures { result ≡ sized (prefix_size address_bits (drop at s.now)) }
 {
     if s.len() <= at {
-        return 0;
+        return None;
     }
     let len = s[at] as usize;
     if LONGEST_PREFIX < len {
-        return 0;
+        return None;
     }
     let size = 1 + (len + 7) / 8;
     if s.len() - at < size {
-        return 0;
+        return None;
     }
-    size
+    Some(size)
 }
 
 // The network of the prefix at a place.
@@ -107,19 +98,38 @@ pub fn network_at(s: &[u8], at: usize) -> Network
     network_of(octets::number(s, at + 1, ADDRESS_SIZE), len)
 }
 
+// The networks of a section of prefixes, up to its end or to the first prefix that isn't whole.
+#[derive(Clone, Copy, Debug)]
+pub struct Networks<'a>(pub &'a [u8]);
+
+impl<'a> Iterator for Networks<'a> {
+    ghost use Rattle.std.specs.Iterator.{YieldsFirstBy, item_count};
+    ghost use Rattle.network.specs.Networks.{network_in};
+    ghost use Rattle.network.specs.Left.{networks_left};
+
+    type Item = Network;
+
+    ghost next_gives = { YieldsFirstBy network_in networks_left };
+
+    ghost remaining = { item_count networks_left };
+
+    fn next(&mut self) -> Option<Network> {
+        let size = prefix_size(self.0, 0)?;
+        let network = network_at(self.0, 0);
+        self.0 = &self.0[size..];
+        Some(network)
+    }
+}
+
 // Whether a section is prefixes to its end.
 pub fn prefixes_whole(s: &[u8]) -> bool
     ensures { result ≡ whole (prefix_size address_bits) s.now }
 {
     let mut at = 0;
-    while at < s.len() {
-        let size = prefix_size(s, at);
-        if size == 0 {
-            return false;
-        }
+    while let Some(size) = prefix_size(s, at) {
         at += size;
     }
-    true
+    at == s.len()
 }
 
 // The four parts of an address with dots between.

@@ -23,7 +23,7 @@ ghost use Rattle.operand.specs.Tests.{meaning, operand_meaning, following_meant,
 
 use aspath::Item;
 use network::{Network, Relation};
-use program::Fields;
+use program::{Fields, Kind};
 
 // The value of a byte is below it: a code, or a part of an address.
 const BYTE_LIMIT: u64 = 256;
@@ -235,7 +235,7 @@ fn network_record(s: &[u8], relation: Relation, side: u32) -> Option<Head>
 {
     let n = network_of(s)?;
     Some(lone_head(
-        program::NETWORK,
+        Kind::Network as u32,
         relation_code(relation),
         n.len,
         n.address,
@@ -261,13 +261,13 @@ fn peer_behind(address: u32, s: &[u8]) -> Option<Head>
     ensures { result ≡ peer_meant (behind_address address s.now) }
 {
     let [first, rest @ ..] = s else {
-        return Some(lone_head(program::PEER, 2, 0, address, 0));
+        return Some(lone_head(Kind::Peer as u32, 2, 0, address, 0));
     };
     if !token::is_blank(*first) {
         return None;
     }
     let value = as_numeral(past_blanks(rest))?;
-    Some(lone_head(program::PEER, 3, 0, address, value))
+    Some(lone_head(Kind::Peer as u32, 3, 0, address, value))
 }
 
 fn peer(bytes: &[u8]) -> Option<Head>
@@ -277,7 +277,7 @@ fn peer(bytes: &[u8]) -> Option<Head>
         return peer_behind(address, rest);
     }
     let value = as_numeral(bytes)?;
-    Some(lone_head(program::PEER, 1, 0, 0, value))
+    Some(lone_head(Kind::Peer as u32, 1, 0, 0, value))
 }
 
 // The code of a comparison with `=` behind it or not, and the bytes behind both.
@@ -353,7 +353,7 @@ fn time(bytes: &[u8]) -> Option<Head>
     let (sign, rest) = comparison(bytes);
     let (seconds, rest) = number(rest, SECONDS_LIMIT)?;
     let micros = fraction(rest)?;
-    Some(lone_head(program::TIME, sign, 0, seconds, micros))
+    Some(lone_head(Kind::Time as u32, sign, 0, seconds, micros))
 }
 
 // The item at the front: an AS number, `.`, or `!` directly before a number.
@@ -470,7 +470,7 @@ fn pattern(bytes: &[u8]) -> Option<Head>
     if variant + count == 0 {
         return None;
     }
-    Some(list_head(program::PATH, variant, count))
+    Some(list_head(Kind::Path as u32, variant, count))
 }
 
 // The communities of an operand: how many.
@@ -488,7 +488,7 @@ fn communities_operand(bytes: &[u8]) -> Option<Head>
     if token::is_blank(bytes[bytes.len() - 1]) {
         return None;
     }
-    Some(list_head(program::COMMUNITIES, 0, count))
+    Some(list_head(Kind::Communities as u32, 0, count))
 }
 
 // The fields of an item's record.
@@ -496,9 +496,9 @@ fn item_fields(i: Item) -> Fields
     ensures { result ≡ fields_of (item i) }
 {
     match i {
-        Item::Number(n) => lone_head(program::ITEM, 0, 0, n, 0).fields,
-        Item::Other(n) => lone_head(program::ITEM, 1, 0, n, 0).fields,
-        Item::Any => lone_head(program::ITEM, 2, 0, 0, 0).fields,
+        Item::Number(n) => lone_head(Kind::Item as u32, 0, 0, n, 0).fields,
+        Item::Other(n) => lone_head(Kind::Item as u32, 1, 0, n, 0).fields,
+        Item::Any => lone_head(Kind::Item as u32, 2, 0, 0, 0).fields,
     }
 }
 
@@ -545,8 +545,12 @@ pub fn meaning(name: Name, bytes: &[u8]) -> Option<Head>
         return None;
     }
     match name {
-        Name::MessageType => code_record(program::TYPE, names::type_named(bytes), bytes),
-        Name::Attribute => code_record(program::ATTRIBUTE, names::attribute_named(bytes), bytes),
+        Name::MessageType => code_record(Kind::MessageType as u32, names::type_named(bytes), bytes),
+        Name::Attribute => code_record(
+            Kind::Attribute as u32,
+            names::attribute_named(bytes),
+            bytes,
+        ),
         Name::Path => pattern(bytes),
         Name::Peer => peer(bytes),
         Name::Time => time(bytes),

@@ -1,5 +1,6 @@
 -- Laws of programs. Assumes nothing.
 pub mod Codes
+pub mod KindLaws
 pub mod LayoutLaws
 pub mod MachineLaws
 pub mod ProgramOctets

@@ -1,11 +1,11 @@
 -- Laws of right records: their bytes are those of the record decoded, which is possible; and a possible record's bytes are right. Assumes nothing.
-use Prim.Native.Nat.{ℕ, ◌+◌, ◌≤◌, ◌<◌}
+use Prim.Native.Nat.{ℕ, ◌+◌, ◌-◌, ◌≤◌, ◌<◌}
 use native.Mathlib.Nat.{lt_of_not-le}
-use native.Mathlib.Decide.{dec_le, ℕ_discrete}
+use native.Mathlib.Decide.{dec_le}
 use native.Mathlib.Omega.{arith}
 use mathlib.Core.Path.{◌≡◌, refl, sym, ap, ◌∙◌}
 use mathlib.Core.Bool.{Bool, true, not}
-use Rattle.std.specs.Prelude.{Some}
+use Rattle.std.specs.Prelude.{Option, Some, None}
 use mathlib.Core.List.{List, ◌++◌}
 use lib.ListN.{length, take}
 use lib.Dec.{eqb, leb, ltb}
@@ -19,16 +19,19 @@ use Rattle.network.specs.Networks.{address_bits, Network, cleared}
 use Rattle.aspath.specs.declared.Item.{Item}
 use Rattle.aspath.specs.declared.Item.TheVariants.{Number, Other, Any}
 use Rattle.program.specs.declared.Fields.{Fields}
+use Rattle.program.specs.declared.Kind.{Kind}
+use Rattle.program.specs.declared.Kind.TheVariants as kind
 use Rattle.program.specs.Readings.{by_as, by_address, by_both, and, or}
 use Rattle.program.specs.Records.{Head, type, attribute, path, peer, loops, bogon, network, time, communities}
 use Rattle.program.specs.Records.{Record, head, item, flip, pass}
 use Rattle.program.specs.Records.{weight_limit, second, code_limit, PossibleHead, Possible, Bits32, Code, PassPossible, CommunitiesPossible}
 use Rattle.program.specs.Kinds.{type_kind, attribute_kind, path_kind, item_kind, peer_kind, loops_kind, bogon_kind, network_kind, time_kind}
-use Rattle.program.specs.Kinds.{flip_kind, and_kind, or_kind, communities_kind}
+use Rattle.program.specs.Kinds.{flip_kind, and_kind, or_kind, communities_kind, kind_is}
 use Rattle.program.specs.Layout.{record_size, fields, ends_code, head_fields, item_fields, fields_of, laid, encode}
 use Rattle.program.specs.Layout.{fields_in, is_start, is_end, operand_of, record_is, decode}
-use Rattle.program.specs.Checks.{unused, right_code, right_path, right_item, right_peer, right_network, right_time, right_communities, right_bare, right_pass}
-use Rattle.program.specs.Checks.{right_fields, right_record}
+use Rattle.program.specs.Checks.{unused, right_code, right_path, right_item, right_peer, right_network, right_time, right_bare, right_counted, right_communities, right_pass}
+use Rattle.program.specs.Checks.{right_of, right_fields, right_record}
+use Rattle.program.proofs.KindLaws.{kind_number}
 use Rattle.program.proofs.Codes.{relation_few, side_few, comparison_few, ends_few, relation_code_lem, side_code_lem, comparison_code_lem}
 use Rattle.program.proofs.Codes.{ends_code_lem, no_ends, ends_none}
 use Rattle.program.proofs.LayoutLaws.{fields_read, laid_read, possible_fit}
@@ -57,21 +60,23 @@ module _ (k v c a b : ℕ) where
       let z = each (unused a) (unused b) y.1 in
       rw (eqb-true v 0 x.0, eqb-true c 0 y.0, eqb-true a 0 z.0, eqb-true b 0 z.1)
 
-  right_pass_lem : right_pass (fields k v c a b) ≡ true → (fields k 0 c 0 0 ≡ fields k v c a b) × PassPossible c
-  right_pass_lem e =
+  right_counted_lem : (last : ℕ) → right_counted last (fields k v c a b) ≡ true → (fields k 0 c 0 0 ≡ fields k v c a b) × ((1 ≤ c) × (c ≤ last))
+  right_counted_lem last e =
       let x = each (unused v) _ e in
       let y = each (leb 1 c) _ x.1 in
-      let z = each (leb (2 + c) weight_limit) _ y.1 in
+      let z = each (leb c last) _ y.1 in
       let w = each (unused a) (unused b) z.1 in
-      (rw (eqb-true v 0 x.0, eqb-true a 0 w.0, eqb-true b 0 w.1), record { some = leb-true 1 c y.0; few = leb-true (2 + c) weight_limit z.0 })
+      (rw (eqb-true v 0 x.0, eqb-true a 0 w.0, eqb-true b 0 w.1), (leb-true 1 c y.0, leb-true c last z.0))
+
+  right_pass_lem : right_pass (fields k v c a b) ≡ true → (fields k 0 c 0 0 ≡ fields k v c a b) × PassPossible c
+  right_pass_lem e =
+      let x = right_counted_lem (weight_limit - 2) e in
+      (x.0, record { some = x.1.0; few = omega (arith, x.1.1) })
 
   right_communities_lem : right_communities (fields k v c a b) ≡ true → (fields k 0 c 0 0 ≡ fields k v c a b) × CommunitiesPossible c
   right_communities_lem e =
-      let x = each (unused v) _ e in
-      let y = each (leb 1 c) _ x.1 in
-      let z = each (ltb c weight_limit) _ y.1 in
-      let w = each (unused a) (unused b) z.1 in
-      (rw (eqb-true v 0 x.0, eqb-true a 0 w.0, eqb-true b 0 w.1), record { some = leb-true 1 c y.0; few = ltb-true c weight_limit z.0 })
+      let x = right_counted_lem (weight_limit - 1) e in
+      (x.0, record { some = x.1.0; few = omega (arith, x.1.1) })
 
 module _ (v c a b : ℕ) (wa : Bits32 a) (wb : Bits32 b) where
   right_path_lem : right_path (fields path_kind v c a b) ≡ true → Right (fields path_kind v c a b)
@@ -156,33 +161,32 @@ module _ (v c a b : ℕ) (wa : Bits32 a) (wb : Bits32 b) where
           let h : 3 < v = lt_of_not-le n in
           never (simp (ne_eqb v 1 (λ e. omega arith), ne_eqb v 2 (λ e. omega arith), ne_eqb v 3 (λ e. omega arith)) at s)
 
--- what follows from a choice by a kind that came out true
-choose : {P : Type 0} (k n : ℕ) {t u : Bool} → (k ≡ n → t ≡ true → P) → (u ≡ true → P) → pick (eqb k n) t u ≡ true → P
-choose {P} k n {t} {u} f g e = go (ℕ_discrete k n)
-  where
-    go : Dec (k ≡ n) → P
-    go (yes q) = f q (rw (eq-eqb _ _ q) at e)
-    go (no q) = g (rw (ne_eqb _ _ q) at e)
-
 -- right fields are those of the record that they say, and it is possible
 right_kind : (k v c a b : ℕ) → Bits32 a → Bits32 b → right_fields (fields k v c a b) ≡ true → Right (fields k v c a b)
 unfolding right_fields fields_of head_fields record_is
-right_kind k v c a b wa wb =
-    choose k type_kind (λ q t. let x = right_code_lem type_kind v c a b t in rw q (record { is = head (type a); said = refl; same = x.0; possible = x.1 }))
-    (choose k attribute_kind (λ q t. let x = right_code_lem attribute_kind v c a b t in rw q (record { is = head (attribute a); said = refl; same = x.0; possible = x.1 }))
-    (choose k path_kind (λ q t. rw q (right_path_lem v c a b wa wb t))
-    (choose k item_kind (λ q t. rw q (right_item_lem v c a b wa wb t))
-    (choose k peer_kind (λ q t. rw q (right_peer_lem v c a b wa wb t))
-    (choose k loops_kind (λ q t. rw q (record { is = head loops; said = refl; same = right_bare_lem loops_kind v c a b t; possible = tt }))
-    (choose k bogon_kind (λ q t. rw q (record { is = head bogon; said = refl; same = right_bare_lem bogon_kind v c a b t; possible = tt }))
-    (choose k network_kind (λ q t. rw q (right_network_lem v c a b wa wb t))
-    (choose k time_kind (λ q t. rw q (right_time_lem v c a b wa wb t))
-    (choose k flip_kind (λ q t. rw q (record { is = flip; said = refl; same = right_bare_lem flip_kind v c a b t; possible = tt }))
-    (choose k and_kind (λ q t. let x = right_pass_lem and_kind v c a b t in rw q (record { is = pass and c; said = refl; same = x.0; possible = x.1 }))
-    (choose k or_kind (λ q t. let x = right_pass_lem or_kind v c a b t in rw q (record { is = pass or c; said = refl; same = x.0; possible = x.1 }))
-    (choose k communities_kind
-    (λ q t. let x = right_communities_lem communities_kind v c a b t in rw q (record { is = head (communities c); said = refl; same = x.0; possible = x.1 }))
-    (λ e. never e)))))))))))))
+right_kind k v c a b wa wb = go (kind_is k) refl
+  where
+    go : (o : Option Kind) → kind_is k ≡ o → right_of o (fields k v c a b) ≡ true → Right (fields k v c a b)
+    go None q t = never t
+    go (Some kind.MessageType) q t =
+        let x = right_code_lem type_kind v c a b t in rw (kind_number q) (record { is = head (type a); said = refl; same = x.0; possible = x.1 })
+    go (Some kind.Attribute) q t =
+        let x = right_code_lem attribute_kind v c a b t in rw (kind_number q) (record { is = head (attribute a); said = refl; same = x.0; possible = x.1 })
+    go (Some kind.Path) q t = rw (kind_number q) (right_path_lem v c a b wa wb t)
+    go (Some kind.Item) q t = rw (kind_number q) (right_item_lem v c a b wa wb t)
+    go (Some kind.Peer) q t = rw (kind_number q) (right_peer_lem v c a b wa wb t)
+    go (Some kind.Loops) q t = rw (kind_number q) (record { is = head loops; said = refl; same = right_bare_lem loops_kind v c a b t; possible = tt })
+    go (Some kind.Bogon) q t = rw (kind_number q) (record { is = head bogon; said = refl; same = right_bare_lem bogon_kind v c a b t; possible = tt })
+    go (Some kind.Network) q t = rw (kind_number q) (right_network_lem v c a b wa wb t)
+    go (Some kind.Time) q t = rw (kind_number q) (right_time_lem v c a b wa wb t)
+    go (Some kind.Flip) q t = rw (kind_number q) (record { is = flip; said = refl; same = right_bare_lem flip_kind v c a b t; possible = tt })
+    go (Some kind.And) q t =
+        let x = right_pass_lem and_kind v c a b t in rw (kind_number q) (record { is = pass and c; said = refl; same = x.0; possible = x.1 })
+    go (Some kind.Or) q t =
+        let x = right_pass_lem or_kind v c a b t in rw (kind_number q) (record { is = pass or c; said = refl; same = x.0; possible = x.1 })
+    go (Some kind.Communities) q t =
+        let x = right_communities_lem communities_kind v c a b t in
+        rw (kind_number q) (record { is = head (communities c); said = refl; same = x.0; possible = x.1 })
 
 right_fields_lem : (f : Fields) → Bits32 f.a → Bits32 f.b → right_fields f ≡ true → Right f
 right_fields_lem f wa wb e = right_kind f.kind f.variant f.count f.a f.b wa wb e
@@ -220,7 +224,7 @@ both_hold {t} {u} e f = (pick_both t u).1 (e, f)
 
 -- the fields of a possible record are right
 head_right : (h : Head) → PossibleHead h → right_fields (head_fields h) ≡ true
-unfolding right_fields head_fields
+unfolding right_fields kind_is head_fields
 head_right (type c) p = both_hold (lt-ltb c code_limit p.below) refl
 head_right (attribute c) p = both_hold (lt-ltb c code_limit p.below) refl
 head_right (path start end count) p =
@@ -239,21 +243,21 @@ head_right (network r n s) p =
     (both_hold (le-leb _ address_bits p.sized)
     (both_hold (le-leb _ 2 (side_few s)) (eq-eqb _ _ (sym (ap (λ (m : Network). m.address) p.clear)))))
 head_right (time c seconds micros) p = both_hold (le-leb _ 4 (comparison_few c)) (lt-ltb micros second p.fraction)
-head_right (communities count) p = both_hold (le-leb 1 count p.some) (both_hold (lt-ltb count weight_limit p.few) refl)
+head_right (communities count) p = both_hold (le-leb 1 count p.some) (both_hold (le-leb count (weight_limit - 1) (omega (arith, p.few))) refl)
 
 item_right : (i : Item) → right_fields (item_fields i) ≡ true
-unfolding right_fields item_fields
+unfolding right_fields kind_is item_fields
 item_right (Number n) = refl
 item_right (Other n) = refl
 item_right Any = refl
 
 fields_right : (r : Record) → Possible r → right_fields (fields_of r) ≡ true
-unfolding right_fields fields_of
+unfolding right_fields kind_is fields_of
 fields_right (head h) p = head_right h p
 fields_right (item i) p = item_right i
 fields_right flip p = refl
-fields_right (pass and count) p = both_hold (le-leb 1 count p.some) (both_hold (le-leb (2 + count) weight_limit p.few) refl)
-fields_right (pass or count) p = both_hold (le-leb 1 count p.some) (both_hold (le-leb (2 + count) weight_limit p.few) refl)
+fields_right (pass and count) p = both_hold (le-leb 1 count p.some) (both_hold (le-leb count (weight_limit - 2) (omega (arith, p.few))) refl)
+fields_right (pass or count) p = both_hold (le-leb 1 count p.some) (both_hold (le-leb count (weight_limit - 2) (omega (arith, p.few))) refl)
 
 -- the bytes of a possible record are right, whatever follows them
 pub encode_right : (r : Record) → Possible r → (rest : List ℕ) → right_record (encode r ++ rest) ≡ true

@@ -1,4 +1,5 @@
 -- `is_valid` decides `Valid`: each of its tests against its part of the words, over the records read. Assumes nothing.
+use Rattle.std.specs.Prelude.{Some}
 use Prim.Native.Nat.{ℕ, suc, ◌*◌, ◌/◌, ◌%◌, ◌≤◌}
 use native.Mathlib.Omega.{arith}
 use mathlib.Core.Path.{◌≡◌, refl, sym, ap, ◌∙◌}
@@ -13,42 +14,40 @@ use Rattle.octets.specs.Rows.{whole}
 use Rattle.octets.proofs.Choices.{never, each}
 use Rattle.octets.proofs.Every.{every_place, every_places}
 use Rattle.program.specs.declared.Class.{Class}
-use Rattle.program.specs.declared.Class.TheVariants.{Test as aTest, Item as an_item, Flip as aFlip, Pass as aPass, Unknown as unknown}
+use Rattle.program.specs.declared.Class.TheVariants.{Test as aTest, Item as an_item, Flip as aFlip, Pass as aPass}
 use Rattle.program.specs.Records.{Record, flip, Possible, weight_limit}
 use Rattle.program.specs.Kinds.{class_of, class_is}
 use Rattle.program.specs.Layout.{record_size, encode_all, records_in}
 use Rattle.program.specs.Validity.{Valid}
-use Rattle.program.specs.Checks.{is_test_class, all_right_in, group_size, landing_in, is_valid}
+use Rattle.program.specs.Checks.{is_test_class, each_record, right_record, lands_well, group_size, is_valid}
 use Rattle.program.proofs.LayoutLaws.{encode_all_length}
 use Rattle.program.proofs.RightLaws.{encode_right}
 use Rattle.program.proofs.ValidKinds.{class_kind}
 use Rattle.program.proofs.ValidRecords.{Right, right_sound, encode_all_at, kind_at}
 use Rattle.program.proofs.ValidWalks.{walk_complete}
-use Rattle.program.proofs.Walks.{right_checks}
 use Rattle.program.proofs.ValidGroups.{grouped_sound, grouped_complete}
 use Rattle.program.proofs.ValidLandings.{landing_sound, landing_complete}
 
 -- the first byte says the first record's class
-first_class : (rs : List Record) → Every Possible rs → 1 ≤ length rs → class_is (get_or (encode_all rs) 0 0) ≡ class_of (get_or rs 0 flip)
+first_class : (rs : List Record) → Every Possible rs → 1 ≤ length rs → class_is (get_or (encode_all rs) 0 0) ≡ Some (class_of (get_or rs 0 flip))
 first_class rs ps h = ap class_is (kind_at rs ps 0 h) ∙ class_kind (get_or rs 0 flip)
 
 -- a class that is taken for a test's is one
-test_class : (c : Class) → is_test_class c ≡ true → c ≡ aTest
+test_class : (c : Class) → is_test_class (Some c) ≡ true → c ≡ aTest
 test_class aTest e = refl
 test_class an_item e = never e
 test_class aFlip e = never e
 test_class aPass e = never e
-test_class unknown e = never e
 
 -- what each test of a program says
 record Tests (program : List ℕ) : Type 0 where
   some : record_size ≤ length program
   few : length program ≤ record_size * weight_limit
   exact : length program % record_size ≡ 0
-  right : all_right_in (length program) program ≡ true
+  right : each_record right_record (length program / record_size) program ≡ true
   starts : is_test_class (class_is (get_or program 0 0)) ≡ true
   grouped : whole group_size program ≡ true
-  lands : landing_in (length program) program ≡ true
+  lands : each_record lands_well (length program / record_size) program ≡ true
 
 -- a program that passes the tests passes each
 tests_sound : (program : List ℕ) → is_valid program ≡ true → Tests program
@@ -57,9 +56,9 @@ tests_sound program t =
     let a = each (leb record_size (length program)) _ t in
     let b = each (leb (length program) (record_size * weight_limit)) _ a.1 in
     let c = each (eqb (length program % record_size) 0) _ b.1 in
-    let d = each (all_right_in (length program) program) _ c.1 in
+    let d = each (each_record right_record (length program / record_size) program) _ c.1 in
     let e = each (is_test_class (class_is (get_or program 0 0))) _ d.1 in
-    let f = each (whole group_size program) (landing_in (length program) program) e.1 in
+    let f = each (whole group_size program) (each_record lands_well (length program / record_size) program) e.1 in
     record {
       some = leb-true _ _ a.0;
       few = leb-true _ _ b.0;
@@ -80,7 +79,7 @@ records_valid : (program : List ℕ) (rs : List Record) → Right program rs →
 records_valid program rs r t =
     let e : length program ≡ record_size * length rs = ap length r.encoded ∙ encode_all_length rs in
     let some : 1 ≤ length rs = omega (arith, t.some) in
-    let long : length rs ≤ length program = omega arith in
+    let n : length program / record_size ≡ length rs = omega arith in
     record {
       records = rs;
       laid = r.encoded;
@@ -90,7 +89,7 @@ records_valid program rs r t =
       starts = test_class (class_of (get_or rs 0 flip))
           (ap is_test_class (sym (first_class rs r.possible some) ∙ ap (λ (l : List ℕ). class_is (get_or l 0 0)) (sym r.encoded)) ∙ t.starts);
       grouped = grouped_sound rs r.possible (ap (whole group_size) (sym r.encoded) ∙ t.grouped);
-      lands = landing_sound (length program) rs long r.possible (ap (landing_in (length program)) (sym r.encoded) ∙ t.lands);
+      lands = landing_sound rs r.possible (ap (each_record lands_well (length rs)) (sym r.encoded) ∙ ap (λ (k : ℕ). each_record lands_well k program) (sym n) ∙ t.lands);
     }
 
 -- a program that is found valid is the bytes of the records read
@@ -99,7 +98,7 @@ valid_records program o v =
     let t = tests_sound program v in
     let n = length program / record_size in
     let e : length program ≡ record_size * n = omega (arith, t.exact) in
-    right_sound n (length program) program e (omega arith) o t.right
+    right_sound n program e o t.right
 
 -- and it has no more than a program may
 pub valid_few : (program : List ℕ) → is_valid program ≡ true → length program ≤ record_size * weight_limit
@@ -122,15 +121,19 @@ module _ {program : List ℕ} (v : Valid program) where
   tests_pass : Tests program
   tests_pass =
       let rs = v.records in
+      let n : length program / record_size ≡ length rs = omega (arith, valid_length) in
       record {
         some = omega (arith, valid_length, v.some);
         few = omega (arith, valid_length, v.few);
         exact = omega (arith, valid_length);
-        right = ap (all_right_in (length program)) v.laid
-            ∙ walk_complete right_checks (length program) rs (λ i h. rw (encode_all_at rs i h) (encode_right (get_or rs i flip) (v.possible i h) (encode_all (drop (suc i) rs))));
-        starts = ap (λ (l : List ℕ). is_test_class (class_is (get_or l 0 0))) v.laid ∙ ap is_test_class (first_class rs every_possible v.some ∙ v.starts);
+        right = ap (each_record right_record (length program / record_size)) v.laid
+            ∙ ap (λ (k : ℕ). each_record right_record k (encode_all rs)) n
+            ∙ walk_complete right_record rs (λ i h. rw (encode_all_at rs i h) (encode_right (get_or rs i flip) (v.possible i h) (encode_all (drop (suc i) rs))));
+        starts = ap (λ (l : List ℕ). is_test_class (class_is (get_or l 0 0))) v.laid ∙ ap is_test_class (first_class rs every_possible v.some ∙ ap Some v.starts);
         grouped = ap (whole group_size) v.laid ∙ grouped_complete every_possible v.grouped;
-        lands = ap (landing_in (length program)) v.laid ∙ landing_complete (length program) rs every_possible v.lands;
+        lands = ap (each_record lands_well (length program / record_size)) v.laid
+            ∙ ap (λ (k : ℕ). each_record lands_well k (encode_all rs)) n
+            ∙ landing_complete rs every_possible v.lands;
       }
 
   -- no valid program is missed

@@ -1,4 +1,5 @@
 -- What `whole group_size` decides: each test is followed by what may follow it, which stands nowhere else. Assumes nothing.
+use Rattle.std.specs.Prelude.{Option, Some, None}
 use Prim.Native.Nat.{ℕ, zero, suc, ◌+◌, ◌*◌, ◌≤◌}
 use native.Mathlib.Nat.{lt_of_not-le, not-suc-le-zero}
 use native.Mathlib.Decide.{dec_le}
@@ -8,7 +9,8 @@ use mathlib.Core.Bool.{Bool, true, false}
 use mathlib.Core.List.{List, [], ◌∷◌, ◌++◌, map}
 use lib.ListN.{length, drop, length-drop, length-map}
 use lib.Seq.{drop_at}
-use borrow.Author.Tests.{lt-ltb, le-ltb}
+use lib.Dec.{leb}
+use borrow.Author.Tests.{lt-ltb, le-ltb, le-leb, leb-true}
 use Rattle.octets.specs.Choice.{pick, both}
 use Rattle.octets.specs.Lists.{Every, every_none, every_more}
 use Rattle.octets.specs.Rows.{whole}
@@ -17,13 +19,13 @@ use Rattle.octets.proofs.Every.{every_front, every_rest, every_drop, every_weake
 use Rattle.octets.proofs.Rows.{Sizes, whole_end, whole_bad, whole_next}
 use Rattle.aspath.specs.declared.Item.{Item}
 use Rattle.program.specs.declared.Class.{Class}
-use Rattle.program.specs.declared.Class.TheVariants.{Test as aTest, Item as an_item, Flip as aFlip, Pass as aPass, Unknown as unknown}
+use Rattle.program.specs.declared.Class.TheVariants.{Test as aTest, Item as an_item, Flip as aFlip, Pass as aPass}
 use Rattle.program.specs.declared.Fields.{Fields}
 use Rattle.program.specs.Records.{Head, Record, head, item, flip, pass, Possible, count_of}
 use Rattle.program.specs.Kinds.{class_of, class_is}
 use Rattle.program.specs.Layout.{record_size, head_fields, fields_of, fields_in, encode, encode_all}
 use Rattle.program.specs.Validity.{Grouped, end, a_test, a_flip, a_pass}
-use Rattle.program.specs.Checks.{is_item, items_stand, following_in, last_item, follows_in, group_of, group_size}
+use Rattle.program.specs.Checks.{is_item, item_stands, items_stand, each_record, following_in, last_item, follows_in, group_of, group_size}
 use Rattle.program.proofs.ValidKinds.{class_kind, head_following, is_item_lem, Takes, may_takes, takes_may, record_read}
 use Rattle.program.proofs.ValidRecords.{after_record, record_long, encode_all_drop}
 
@@ -31,21 +33,18 @@ use Rattle.program.proofs.ValidRecords.{after_record, record_long, encode_all_dr
 
 -- they have no more bytes than there are
 items_fit : (last n : ℕ) (l : List ℕ) → items_stand last n l ≡ true → record_size * n ≤ length l
-unfolding items_stand
+unfolding each_record
 items_fit last zero l e = omega arith
-items_fit last (suc n) l e = go (dec_le record_size (length l)) (items_fit last n (drop record_size l))
-  where
-    go : Dec (record_size ≤ length l) → (items_stand last n (drop record_size l) ≡ true → record_size * n ≤ length (drop record_size l)) → record_size * suc n ≤ length l
-    go (yes h) ih =
-        let x = each (is_item last (fields_in l)) (items_stand last n (drop record_size l)) (rw (le-ltb _ _ h) at e) in
-        omega (arith, ih x.1, length-drop record_size l)
-    go (no m) ih = never (rw (lt-ltb _ _ (lt_of_not-le m)) at e)
+items_fit last (suc n) l e =
+    let x = each (item_stands last l) (items_stand last n (drop record_size l)) e in
+    let h = leb-true _ _ (each (leb record_size (length l)) (is_item last (fields_in l)) x.0).0 in
+    omega (arith, h, items_fit last n (drop record_size l) x.1, length-drop record_size l)
 
 -- an item, and those after it
 stand_next : (last n : ℕ) (r : Record) → Possible r → (rest : List ℕ)
     → items_stand last (suc n) (encode r ++ rest) ≡ both (is_item last (fields_of r)) (items_stand last n rest)
-unfolding items_stand
-stand_next last n r p rest = rw (le-ltb _ _ (record_long r rest), record_read r p rest, after_record r rest)
+unfolding each_record
+stand_next last n r p rest = rw (le-leb _ _ (record_long r rest), record_read r p rest, after_record r rest)
 
 module _ (h : Head) where
   -- the last variant that may follow a head
@@ -61,7 +60,7 @@ module _ (h : Head) where
     taken : Every (Takes h) its
 
   stand_sound : (n : ℕ) (rs : List Record) → Every Possible rs → items_stand last n (encode_all rs) ≡ true → Due n rs
-  unfolding encode_all items_stand
+  unfolding encode_all each_record
   stand_sound zero rs ps e = record { its = []; rest = rs; count = refl; joined = refl; taken = every_none }
   stand_sound (suc n) [] ps e = never e
   stand_sound (suc n) (r ∷ rs) ps e =
@@ -79,7 +78,7 @@ module _ (h : Head) where
 
   stand_complete : {its : List Item} (rest : List Record) → Every (Takes h) its → Every Possible (map item its ++ rest)
       → items_stand last (length its) (encode_all (map item its ++ rest)) ≡ true
-  unfolding encode_all items_stand
+  unfolding encode_all each_record
   stand_complete rest every_none ps = refl
   stand_complete rest (every_more {a = i} {xs = its} t ts) ps =
       stand_next last (length its) (item i) (every_front ps) (encode_all (map item its ++ rest))
@@ -87,17 +86,17 @@ module _ (h : Head) where
 
 -- ---- a record with those that follow it
 
-group_fits : (c : Class) (f : Fields) (l : List ℕ) → group_of c f l ≤ record_size + length l
+group_fits : (c : Option Class) (f : Fields) (l : List ℕ) → group_of c f l ≤ record_size + length l
 unfolding follows_in
-group_fits aTest f l = go (items_stand (last_item f) (following_in f) l) refl
+group_fits (Some aTest) f l = go (items_stand (last_item f) (following_in f) l) refl
   where
     go : (b : Bool) → items_stand (last_item f) (following_in f) l ≡ b → pick b (record_size + record_size * following_in f) 0 ≤ record_size + length l
     go true e = omega (arith, items_fit (last_item f) (following_in f) l e)
     go false e = omega arith
-group_fits an_item f l = omega arith
-group_fits aFlip f l = omega arith
-group_fits aPass f l = omega arith
-group_fits unknown f l = omega arith
+group_fits (Some an_item) f l = omega arith
+group_fits (Some aFlip) f l = omega arith
+group_fits (Some aPass) f l = omega arith
+group_fits None f l = omega arith
 
 -- it has no more bytes than there are
 pub group_sizes : Sizes group_size
@@ -109,7 +108,7 @@ group_sizes = record { fits = λ l. go l (dec_le record_size (length l)) }
     go l (no m) = rw (lt-ltb _ _ (lt_of_not-le m)) (omega arith)
 
 -- by its class
-group_class : (r : Record) → Possible r → (rest : List ℕ) → group_size (encode r ++ rest) ≡ group_of (class_of r) (fields_of r) rest
+group_class : (r : Record) → Possible r → (rest : List ℕ) → group_size (encode r ++ rest) ≡ group_of (Some (class_of r)) (fields_of r) rest
 unfolding group_size
 group_class r p rest = rw (le-ltb _ _ (record_long r rest), record_read r p rest, after_record r rest, class_kind r) refl
 

@@ -3,6 +3,7 @@ use mathlib.Core.Path.{◌≡◌, refl, sym, ap, ◌∙◌}
 use mathlib.Core.Bool.{true}
 use mathlib.Core.List.{List, [], ◌∷◌, ◌++◌}
 use Prim.Native.Nat.{ℕ}
+use Rattle.std.specs.Prelude.{Some}
 use native.Mathlib.Omega.{arith}
 use lib.ListN.{length, get_or}
 use Rattle.octets.specs.Lists.{Every, every_none}
@@ -17,15 +18,15 @@ use Rattle.program.specs.Readings.{by_as, by_address, by_both, and, or}
 use Rattle.program.specs.Records.{Head, type, attribute, path, peer, loops, bogon, network, time, communities}
 use Rattle.program.specs.Records.{Record, head, item, flip, pass}
 use Rattle.program.specs.Records.{Possible, count_of, MayFollow, in_path, in_communities}
-use Rattle.program.specs.Kinds.{class_of, class_is}
+use Rattle.program.specs.Kinds.{class_of, kind_is, class_is}
 use Rattle.program.specs.Layout.{head_fields, item_fields, fields_of, encode, fields_in}
 use Rattle.program.specs.Checks.{last_variant, is_item, following_in, last_item}
 use Rattle.program.proofs.LayoutLaws.{fields_read, possible_fit}
 
 -- ---- what fields say
 
-head_class : (h : Head) → class_is (head_fields h).kind ≡ aTest
-unfolding class_is head_fields
+head_class : (h : Head) → class_is (head_fields h).kind ≡ Some aTest
+unfolding class_is kind_is head_fields
 head_class (type c) = refl
 head_class (attribute c) = refl
 head_class (path start end count) = refl
@@ -38,15 +39,15 @@ head_class (network r n s) = refl
 head_class (time c seconds micros) = refl
 head_class (communities count) = refl
 
-item_class : (i : Item) → class_is (item_fields i).kind ≡ an_item
-unfolding class_is item_fields
+item_class : (i : Item) → class_is (item_fields i).kind ≡ Some an_item
+unfolding class_is kind_is item_fields
 item_class (Number n) = refl
 item_class (Other n) = refl
 item_class Any = refl
 
 -- the kind of a record says its class
-pub class_kind : (r : Record) → class_is (fields_of r).kind ≡ class_of r
-unfolding class_is fields_of
+pub class_kind : (r : Record) → class_is (fields_of r).kind ≡ Some (class_of r)
+unfolding class_is kind_is fields_of
 class_kind (head h) = head_class h
 class_kind (item i) = item_class i
 class_kind flip = refl

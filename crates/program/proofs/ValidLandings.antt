@@ -1,4 +1,5 @@
--- What `landing_in` decides: every pass lands on the end or on a record that is no item. Assumes nothing.
+-- What the test of every landing decides: every pass lands on the end or on a record that is no item. Assumes nothing.
+use Rattle.std.specs.Prelude.{Option, Some}
 use Prim.Native.Nat.{ℕ, suc, ◌+◌, ◌*◌, ◌≤◌, ◌<◌}
 use native.Mathlib.Nat.{lt_of_not-le}
 use native.Mathlib.Decide.{dec_le}
@@ -14,27 +15,26 @@ use Rattle.octets.proofs.Choices.{never}
 use Rattle.octets.proofs.Every.{every_place, every_drop}
 use Rattle.program.specs.declared.Fields.{Fields}
 use Rattle.program.specs.declared.Class.{Class}
-use Rattle.program.specs.declared.Class.TheVariants.{Test as aTest, Item as an_item, Flip as aFlip, Pass as aPass, Unknown as unknown}
+use Rattle.program.specs.declared.Class.TheVariants.{Test as aTest, Item as an_item, Flip as aFlip, Pass as aPass}
 use Rattle.program.specs.Readings.{Operator}
 use Rattle.program.specs.Records.{Record, head, item, flip, pass, Possible}
-use Rattle.program.specs.Kinds.{class_of, class_is}
+use Rattle.program.specs.Kinds.{class_of, kind_is, class_is}
 use Rattle.program.specs.Layout.{record_size, fields_of, fields_in, encode, encode_all}
 use Rattle.program.specs.Validity.{Landing, at_end, on_record}
-use Rattle.program.specs.Checks.{is_item_class, is_pass_class, target, lands_well, landing_in}
+use Rattle.program.specs.Checks.{is_item_class, is_pass_class, target, lands_well, each_record}
 use Rattle.program.proofs.LayoutLaws.{encode_length, encode_all_length}
 use Rattle.program.proofs.ValidKinds.{class_kind, record_read}
 use Rattle.program.proofs.ValidRecords.{encode_all_at, kind_at}
 use Rattle.program.proofs.ValidWalks.{walk_sound, walk_complete}
-use Rattle.program.proofs.Walks.{landing_checks}
 
 -- ---- a record, with those after it
 
 -- a record's class, as read
-class_read : (r : Record) → Possible r → (rest : List ℕ) → class_is (fields_in (encode r ++ rest)).kind ≡ class_of r
+class_read : (r : Record) → Possible r → (rest : List ℕ) → class_is (fields_in (encode r ++ rest)).kind ≡ Some (class_of r)
 class_read r p rest = ap (λ (f : Fields). class_is f.kind) (record_read r p rest) ∙ class_kind r
 
 -- one that is no pass lands well
-other_lands : (r : Record) → Possible r → (rest : List ℕ) → is_pass_class (class_of r) ≡ false → lands_well (encode r ++ rest) ≡ true
+other_lands : (r : Record) → Possible r → (rest : List ℕ) → is_pass_class (Some (class_of r)) ≡ false → lands_well (encode r ++ rest) ≡ true
 unfolding lands_well
 other_lands r p rest e = rw (class_read r p rest, e)
 
@@ -68,8 +68,8 @@ module _ (o : Operator) (n : ℕ) (p : Possible (pass o n)) (rs : List Record) w
       rw (class_read (pass o n) p (encode_all rs), lands_at, le-ltb _ _ near, there)
 
   -- by the class of the record there
-  on_lands : Every Possible rs → (h : n < length rs) → lands_well all_bytes ≡ not (is_item_class (class_of (get_or rs n flip)))
-  on_lands ps h = near_lands (omega arith) ∙ ap (λ (c : Class). not (is_item_class c)) (ap class_is (kind_at rs ps n h) ∙ class_kind (get_or rs n flip))
+  on_lands : Every Possible rs → (h : n < length rs) → lands_well all_bytes ≡ not (is_item_class (Some (class_of (get_or rs n flip))))
+  on_lands ps h = near_lands (omega arith) ∙ ap (λ (c : Option Class). not (is_item_class c)) (ap class_is (kind_at rs ps n h) ∙ class_kind (get_or rs n flip))
 
   -- a pass that the test takes lands well
   pass_sound : Every Possible rs → lands_well all_bytes ≡ true → Landing rs n
@@ -80,22 +80,21 @@ module _ (o : Operator) (n : ℕ) (p : Possible (pass o n)) (rs : List Record) w
       go (yes h) (yes k) = at_end (omega arith)
       go (yes h) (no f) =
           let k : n < length rs = lt_of_not-le f in
-          on_record k (λ c. never (ap (λ (x : Class). not (is_item_class x)) (sym c) ∙ sym (on_lands ps k) ∙ t))
+          on_record k (λ c. never (ap (λ (x : Class). not (is_item_class (Some x))) (sym c) ∙ sym (on_lands ps k) ∙ t))
 
   -- and one that lands well is taken
   pass_complete : Every Possible rs → Landing rs n → lands_well all_bytes ≡ true
-  unfolding class_is
+  unfolding class_is kind_is
   pass_complete ps (at_end e) =
       let past : length (encode_all rs) ≤ record_size * n = omega (arith, encode_all_length rs) in
       near_lands (omega arith) ∙ rw (get_or-eq_default (encode_all rs) 0 past) refl
   pass_complete ps (on_record h f) = on_lands ps h ∙ no_item (class_of (get_or rs n flip)) f
     where
-      no_item : (c : Class) → (c ≡ an_item → ⊥) → not (is_item_class c) ≡ true
+      no_item : (c : Class) → (c ≡ an_item → ⊥) → not (is_item_class (Some c)) ≡ true
       no_item aTest g = refl
       no_item an_item g = absurd (g refl)
       no_item aFlip g = refl
       no_item aPass g = refl
-      no_item unknown g = refl
 
 -- ---- all records
 
@@ -115,21 +114,21 @@ module _ (rs : List Record) (i n : ℕ) (h : i < length rs) where
   landing_down (on_record k f) = on_record (omega (arith, length-drop (suc i) rs)) (λ c. f (ap class_of (sym place) ∙ c))
 
 -- where the test holds, every pass lands well
-pub landing_sound : (f : ℕ) (rs : List Record) → length rs ≤ f → Every Possible rs → landing_in f (encode_all rs) ≡ true
+pub landing_sound : (rs : List Record) → Every Possible rs → each_record lands_well (length rs) (encode_all rs) ≡ true
     → (i : ℕ) (o : Operator) (count : ℕ) → i < length rs → get_or rs i flip ≡ pass o count → Landing rs (i + 1 + count)
-landing_sound f rs h ps t i o count k e =
+landing_sound rs ps t i o count k e =
     let w : lands_well (encode (pass o count) ++ encode_all (drop (suc i) rs)) ≡ true
     = ap (λ (r : Record). lands_well (encode r ++ encode_all (drop (suc i) rs))) (sym e)
     ∙ ap lands_well (sym (encode_all_at rs i k))
-    ∙ walk_sound landing_checks f rs h t i k in
+    ∙ walk_sound lands_well rs t i k in
     landing_up rs i count k (pass_sound o count (rw e at (every_place ps flip i k)) (drop (suc i) rs) (every_drop (suc i) ps) w)
 
 -- and it holds where they do
-pub landing_complete : (f : ℕ) (rs : List Record) → Every Possible rs
+pub landing_complete : (rs : List Record) → Every Possible rs
     → ((i : ℕ) (o : Operator) (count : ℕ) → i < length rs → get_or rs i flip ≡ pass o count → Landing rs (i + 1 + count))
-    → landing_in f (encode_all rs) ≡ true
-landing_complete f rs ps g =
-    walk_complete landing_checks f rs (λ i h. ap lands_well (encode_all_at rs i h) ∙ here i h (get_or rs i flip) refl (every_place ps flip i h))
+    → each_record lands_well (length rs) (encode_all rs) ≡ true
+landing_complete rs ps g =
+    walk_complete lands_well rs (λ i h. ap lands_well (encode_all_at rs i h) ∙ here i h (get_or rs i flip) refl (every_place ps flip i h))
   where
     here : (i : ℕ) → i < length rs → (r : Record) → get_or rs i flip ≡ r → Possible r → lands_well (encode r ++ encode_all (drop (suc i) rs)) ≡ true
     here i h (head x) e p = other_lands (head x) p (encode_all (drop (suc i) rs)) refl

@@ -7,14 +7,13 @@ use mathlib.Core.Bool.{true}
 use mathlib.Core.List.{List, [], ◌∷◌, ◌++◌}
 use lib.ListN.{length, get_or, drop, length-append, length-drop, take-append-drop}
 use lib.Seq.{get_or-drop, drop_at, drop-nil, drop-drop, drop-cons}
-use borrow.Author.Tests.{le-ltb}
 use Rattle.octets.specs.Numbers.{Octets}
 use Rattle.octets.specs.Lists.{Every, every_none, every_more}
 use Rattle.octets.proofs.Bytes.{octets_drop}
 use Rattle.octets.proofs.Choices.{each}
 use Rattle.program.specs.Records.{Record, flip, Possible}
 use Rattle.program.specs.Layout.{record_size, fields_of, encode, encode_all, records_in}
-use Rattle.program.specs.Checks.{right_record, all_right_in}
+use Rattle.program.specs.Checks.{right_record, each_record}
 use Rattle.program.proofs.LayoutLaws.{encode_length, records_none, records_next}
 use Rattle.program.proofs.RightLaws.{RightRecord, right_record_lem}
 use Rattle.octets.proofs.Every.{every_place}
@@ -61,15 +60,14 @@ pub record Right (l : List ℕ) (rs : List Record) : Type 0 where
   pub possible : Every Possible rs
 
 -- whole records that are all right are those read, each of them possible
-pub right_sound : (n f : ℕ) (l : List ℕ) → length l ≡ record_size * n → n ≤ f → Octets l → all_right_in f l ≡ true → Right l (records_in l)
-unfolding all_right_in encode_all
-right_sound zero f [] e h o t = rw (records_none [] (omega arith)) (record { encoded = refl; possible = every_none })
-right_sound zero f (b ∷ l) e h o t = absurd (omega arith)
-right_sound (suc n) zero l e h o t = absurd (omega arith)
-right_sound (suc n) (suc f) l e h o t =
+pub right_sound : (n : ℕ) (l : List ℕ) → length l ≡ record_size * n → Octets l → each_record right_record n l ≡ true → Right l (records_in l)
+unfolding each_record encode_all
+right_sound zero [] e o t = rw (records_none [] (omega arith)) (record { encoded = refl; possible = every_none })
+right_sound zero (b ∷ l) e o t = absurd (omega arith)
+right_sound (suc n) l e o t =
     let long : record_size ≤ length l = omega arith in
-    let b = each (right_record l) (all_right_in f (drop record_size l)) (rw (le-ltb _ _ long) at t) in
-    joined long (right_record_lem l o long b.0) (right_sound n f (drop record_size l) (simp length-drop (omega arith)) (omega arith) (octets_drop record_size o) b.1)
+    let b = each (right_record l) (each_record right_record n (drop record_size l)) t in
+    joined long (right_record_lem l o long b.0) (right_sound n (drop record_size l) (simp length-drop (omega arith)) (octets_drop record_size o) b.1)
   where
     joined : record_size ≤ length l → RightRecord l → Right (drop record_size l) (records_in (drop record_size l)) → Right l (records_in l)
     joined long r more =

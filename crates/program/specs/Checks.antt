@@ -1,15 +1,16 @@
--- Valid programs as the code decides it, of the record at the front and of records one after another; f bounds these.
-use Rattle.std.specs.Prelude.{ℕ, zero, suc, ◌+◌, ◌*◌, ◌%◌, Bool, true, false, not, List, length, get_or, drop, eqb, leb, ltb}
+-- Valid programs as the code decides it, of the record at the front and of records one after another.
+use Rattle.std.specs.Prelude.{ℕ, zero, suc, ◌+◌, ◌-◌, ◌*◌, ◌/◌, ◌%◌, Bool, true, false, not, Option, None, Some, List, length, get_or, drop, eqb, leb, ltb}
 use Rattle.octets.specs.Choice.{pick, both}
 use Rattle.octets.specs.Numbers.{number_at}
 use Rattle.octets.specs.Rows.{whole}
 use Rattle.network.specs.Networks.{address_bits, cleared}
 use Rattle.program.specs.declared.Fields.{Fields}
+use Rattle.program.specs.declared.Kind.{Kind}
+use Rattle.program.specs.declared.Kind.TheVariants as kind
 use Rattle.program.specs.declared.Class.{Class}
-use Rattle.program.specs.declared.Class.TheVariants.{Test, Item, Flip, Pass, Unknown}
+use Rattle.program.specs.declared.Class.TheVariants.{Test, Item, Flip, Pass}
 use Rattle.program.specs.Records.{weight_limit, second, code_limit}
-use Rattle.program.specs.Kinds.{type_kind, attribute_kind, path_kind, item_kind, peer_kind, loops_kind, bogon_kind, network_kind, time_kind}
-use Rattle.program.specs.Kinds.{flip_kind, and_kind, or_kind, communities_kind, class_is}
+use Rattle.program.specs.Kinds.{path_kind, item_kind, communities_kind, kind_is, class_is}
 use Rattle.program.specs.Layout.{record_size, fields_in}
 
 -- nothing stands in a field
@@ -49,69 +50,75 @@ right_network f =
 abbrev pub right_time : Fields → Bool
 right_time f = both (leb f.variant 4) (both (unused f.count) (ltb f.b second))
 
-abbrev pub right_communities : Fields → Bool
-right_communities f =
-    both (unused f.variant)
-    (both (leb 1 f.count)
-    (both (ltb f.count weight_limit)
-    (both (unused f.a) (unused f.b))))
-
 abbrev pub right_bare : Fields → Bool
 right_bare f = both (unused f.variant) (both (unused f.count) (both (unused f.a) (unused f.b)))
 
-abbrev pub right_pass : Fields → Bool
-right_pass f =
+-- a count of one or more, up to the last that may stand
+abbrev pub right_counted : ℕ → Fields → Bool
+right_counted last f =
     both (unused f.variant)
     (both (leb 1 f.count)
-    (both (leb (2 + f.count) weight_limit)
+    (both (leb f.count last)
     (both (unused f.a) (unused f.b))))
 
+-- the communities leave room for the head
+abbrev pub right_communities : Fields → Bool
+right_communities = right_counted (weight_limit - 1)
+
+-- a pass leaves room for itself and for what it decides on
+abbrev pub right_pass : Fields → Bool
+right_pass = right_counted (weight_limit - 2)
+
+abbrev pub right_of : Option Kind → Fields → Bool
+right_of None f = false
+right_of (Some kind.MessageType) f = right_code f
+right_of (Some kind.Attribute) f = right_code f
+right_of (Some kind.Path) f = right_path f
+right_of (Some kind.Item) f = right_item f
+right_of (Some kind.Peer) f = right_peer f
+right_of (Some kind.Loops) f = right_bare f
+right_of (Some kind.Bogon) f = right_bare f
+right_of (Some kind.Network) f = right_network f
+right_of (Some kind.Time) f = right_time f
+right_of (Some kind.Flip) f = right_bare f
+right_of (Some kind.And) f = right_pass f
+right_of (Some kind.Or) f = right_pass f
+right_of (Some kind.Communities) f = right_communities f
+
 unfoldable pub right_fields : Fields → Bool
-right_fields f =
-    pick (eqb f.kind type_kind) (right_code f)
-    (pick (eqb f.kind attribute_kind) (right_code f)
-    (pick (eqb f.kind path_kind) (right_path f)
-    (pick (eqb f.kind item_kind) (right_item f)
-    (pick (eqb f.kind peer_kind) (right_peer f)
-    (pick (eqb f.kind loops_kind) (right_bare f)
-    (pick (eqb f.kind bogon_kind) (right_bare f)
-    (pick (eqb f.kind network_kind) (right_network f)
-    (pick (eqb f.kind time_kind) (right_time f)
-    (pick (eqb f.kind flip_kind) (right_bare f)
-    (pick (eqb f.kind and_kind) (right_pass f)
-    (pick (eqb f.kind or_kind) (right_pass f)
-    (pick (eqb f.kind communities_kind) (right_communities f) false))))))))))))
+right_fields f = right_of (kind_is f.kind) f
 
 -- and so are the last four bytes
 abbrev pub right_record : List ℕ → Bool
 right_record l = both (right_fields (fields_in l)) (eqb (number_at l 12 4) 0)
 
-unfoldable pub all_right_in : ℕ → List ℕ → Bool
-all_right_in zero l = true
-all_right_in (suc f) l = pick (ltb (length l) record_size) true (both (right_record l) (all_right_in f (drop record_size l)))
+-- each of so many records passes a test of the bytes from it on
+unfoldable pub each_record : (List ℕ → Bool) → ℕ → List ℕ → Bool
+each_record test zero l = true
+each_record test (suc n) l = both (test l) (each_record test n (drop record_size l))
 
 -- ---- classes
 
-abbrev pub is_test_class : Class → Bool
-is_test_class Test = true
-is_test_class Item = false
-is_test_class Flip = false
-is_test_class Pass = false
-is_test_class Unknown = false
+abbrev pub is_test_class : Option Class → Bool
+is_test_class (Some Test) = true
+is_test_class (Some Item) = false
+is_test_class (Some Flip) = false
+is_test_class (Some Pass) = false
+is_test_class None = false
 
-abbrev pub is_item_class : Class → Bool
-is_item_class Test = false
-is_item_class Item = true
-is_item_class Flip = false
-is_item_class Pass = false
-is_item_class Unknown = false
+abbrev pub is_item_class : Option Class → Bool
+is_item_class (Some Test) = false
+is_item_class (Some Item) = true
+is_item_class (Some Flip) = false
+is_item_class (Some Pass) = false
+is_item_class None = false
 
-abbrev pub is_pass_class : Class → Bool
-is_pass_class Test = false
-is_pass_class Item = false
-is_pass_class Flip = false
-is_pass_class Pass = true
-is_pass_class Unknown = false
+abbrev pub is_pass_class : Option Class → Bool
+is_pass_class (Some Test) = false
+is_pass_class (Some Item) = false
+is_pass_class (Some Flip) = false
+is_pass_class (Some Pass) = true
+is_pass_class None = false
 
 -- ---- what follows a test
 
@@ -126,10 +133,13 @@ number_variant = 0
 abbrev pub is_item : ℕ → Fields → Bool
 is_item last f = both (eqb f.kind item_kind) (leb f.variant last)
 
--- so many of them stand at the front
-unfoldable pub items_stand : ℕ → ℕ → List ℕ → Bool
-items_stand last zero l = true
-items_stand last (suc n) l = pick (ltb (length l) record_size) false (both (is_item last (fields_in l)) (items_stand last n (drop record_size l)))
+-- one stands at the front
+abbrev pub item_stands : ℕ → List ℕ → Bool
+item_stands last l = both (leb record_size (length l)) (is_item last (fields_in l))
+
+-- so many of them do
+abbrev pub items_stand : ℕ → ℕ → List ℕ → Bool
+items_stand last = each_record (item_stands last)
 
 -- how many records follow a record
 unfoldable pub following_in : Fields → ℕ
@@ -143,13 +153,13 @@ last_item f = pick (eqb f.kind communities_kind) number_variant last_variant
 unfoldable pub follows_in : Fields → List ℕ → Bool
 follows_in f l = items_stand (last_item f) (following_in f) l
 
--- the bytes of a record of a class with those that follow it, 0 where it or they can't stand there
-abbrev pub group_of : Class → Fields → List ℕ → ℕ
-group_of Test f l = pick (follows_in f l) (record_size + record_size * following_in f) 0
-group_of Item f l = 0
-group_of Flip f l = record_size
-group_of Pass f l = record_size
-group_of Unknown f l = 0
+-- the bytes of a record of a class with those that follow it, 0 where it or they can't stand there, or it has none
+abbrev pub group_of : Option Class → Fields → List ℕ → ℕ
+group_of (Some Test) f l = pick (follows_in f l) (record_size + record_size * following_in f) 0
+group_of (Some Item) f l = 0
+group_of (Some Flip) f l = record_size
+group_of (Some Pass) f l = record_size
+group_of None f l = 0
 
 unfoldable pub group_size : List ℕ → ℕ
 group_size l = pick (ltb (length l) record_size) 0 (group_of (class_is (fields_in l).kind) (fields_in l) (drop record_size l))
@@ -167,10 +177,6 @@ lands_well l =
     (pick (ltb (length l) (target l)) false (not (is_item_class (class_is (get_or l (target l) 0)))))
     true
 
-unfoldable pub landing_in : ℕ → List ℕ → Bool
-landing_in zero l = true
-landing_in (suc f) l = pick (ltb (length l) record_size) true (both (lands_well l) (landing_in f (drop record_size l)))
-
 -- ---- the whole
 
 unfoldable pub is_valid : List ℕ → Bool
@@ -178,7 +184,7 @@ is_valid program =
     both (leb record_size (length program))
     (both (leb (length program) (record_size * weight_limit))
     (both (eqb (length program % record_size) 0)
-    (both (all_right_in (length program) program)
+    (both (each_record right_record (length program / record_size) program)
     (both (is_test_class (class_is (get_or program 0 0)))
     (both (whole group_size program)
-    (landing_in (length program) program))))))
+    (each_record lands_well (length program / record_size) program))))))

@@ -1,8 +1,10 @@
 -- The kinds of a program's records, by the paper's numbers and, for 13, request 1's, and the class of each.
-use Rattle.std.specs.Prelude.{ℕ, eqb, ltb}
-use Rattle.octets.specs.Choice.{pick}
+use Rattle.std.specs.Prelude.{ℕ, eqb, Option, None, Some}
+use Rattle.octets.specs.Choice.{pick, onward}
+use Rattle.program.specs.declared.Kind.{Kind}
+use Rattle.program.specs.declared.Kind.TheVariants as kind
 use Rattle.program.specs.declared.Class.{Class}
-use Rattle.program.specs.declared.Class.TheVariants.{Test, Item, Flip, Pass, Unknown}
+use Rattle.program.specs.declared.Class.TheVariants.{Test, Item, Flip, Pass}
 use Rattle.program.specs.Readings.{Operator, and, or}
 use Rattle.program.specs.Records.{Record, head, item, flip, pass}
 
@@ -58,9 +60,39 @@ class_of (pass o count) = Pass
 
 -- ---- what the code computes
 
+-- the kind that a number stands for, if it is one
+unfoldable pub kind_is : ℕ → Option Kind
+kind_is k =
+    pick (eqb k type_kind) (Some kind.MessageType)
+    (pick (eqb k attribute_kind) (Some kind.Attribute)
+    (pick (eqb k path_kind) (Some kind.Path)
+    (pick (eqb k item_kind) (Some kind.Item)
+    (pick (eqb k peer_kind) (Some kind.Peer)
+    (pick (eqb k loops_kind) (Some kind.Loops)
+    (pick (eqb k bogon_kind) (Some kind.Bogon)
+    (pick (eqb k network_kind) (Some kind.Network)
+    (pick (eqb k time_kind) (Some kind.Time)
+    (pick (eqb k flip_kind) (Some kind.Flip)
+    (pick (eqb k and_kind) (Some kind.And)
+    (pick (eqb k or_kind) (Some kind.Or)
+    (pick (eqb k communities_kind) (Some kind.Communities) None))))))))))))
+
 -- the class of a kind
-unfoldable pub class_is : ℕ → Class
-class_is k =
-    pick (ltb time_kind k)
-    (pick (eqb k flip_kind) Flip (pick (eqb k and_kind) Pass (pick (eqb k or_kind) Pass (pick (eqb k communities_kind) Test Unknown))))
-    (pick (eqb k item_kind) Item (pick (ltb k type_kind) Unknown Test))
+abbrev pub class_by : Kind → Class
+class_by kind.MessageType = Test
+class_by kind.Attribute = Test
+class_by kind.Path = Test
+class_by kind.Item = Item
+class_by kind.Peer = Test
+class_by kind.Loops = Test
+class_by kind.Bogon = Test
+class_by kind.Network = Test
+class_by kind.Time = Test
+class_by kind.Flip = Flip
+class_by kind.And = Pass
+class_by kind.Or = Pass
+class_by kind.Communities = Test
+
+-- the class of the kind that a number stands for
+unfoldable pub class_is : ℕ → Option Class
+class_is k = onward (kind_is k) (λ x. Some (class_by x))

@@ -1,16 +1,14 @@
 // Programs: records of 16 bytes. Whether bytes are a valid program.
 #![tactic(auto)]
 
-ghost use Rattle.std.specs.Prelude.{◌≡◌, ◌+◌, ◌≤◌, drop, get_or, length};
-ghost use Rattle.octets.specs.Rows.{whole};
+ghost use Rattle.std.specs.Prelude.{◌≡◌, ◌/◌, drop, get_or, length};
+ghost use Rattle.octets.specs.Rows.{sized, whole};
 ghost use Rattle.octets.specs.Writes.{Written};
-ghost use Rattle.program.specs.Kinds.{class_is};
+ghost use Rattle.program.specs.Kinds.{kind_is, class_is};
 ghost use Rattle.program.specs.Layout.{record_size, fields_in, laid};
-ghost use Rattle.program.specs.Checks.{right_code, right_path, right_item, right_peer, right_network, right_time, right_bare, right_pass};
-ghost use Rattle.program.specs.Checks.{right_communities, right_fields, right_record, all_right_in, is_test_class, is_item_class, is_pass_class};
-ghost use Rattle.program.specs.Checks.{is_item, items_stand, last_item, group_of};
-ghost use Rattle.program.specs.declared.Class.TheVariants.{Test};
-ghost use Rattle.program.specs.Checks.{following_in, follows_in, group_size, lands_well, landing_in, is_valid};
+ghost use Rattle.program.specs.Checks.{right_code, right_path, right_item, right_peer, right_network, right_time, right_bare, right_counted};
+ghost use Rattle.program.specs.Checks.{right_fields, right_record, each_record, is_test_class, is_item, item_stands, items_stand, last_item};
+ghost use Rattle.program.specs.Checks.{following_in, follows_in, group_size, lands_well, is_valid};
 
 // The bytes of a record.
 pub const RECORD_SIZE: usize = 16;
@@ -27,33 +25,6 @@ pub const CODE_LIMIT: u32 = 256;
 
 pub const SECOND: u32 = 1000000;
 
-// The kinds of records.
-pub const TYPE: u32 = 1;
-
-pub const ATTRIBUTE: u32 = 2;
-
-pub const PATH: u32 = 3;
-
-pub const ITEM: u32 = 4;
-
-pub const PEER: u32 = 5;
-
-pub const LOOPS: u32 = 6;
-
-pub const BOGON: u32 = 7;
-
-pub const NETWORK: u32 = 8;
-
-pub const TIME: u32 = 9;
-
-pub const FLIP: u32 = 10;
-
-pub const AND: u32 = 11;
-
-pub const OR: u32 = 12;
-
-pub const COMMUNITIES: u32 = 13;
-
 // The last variants of a path, an item, an item that is a number, a network, a side and a comparison.
 pub const LAST_ENDS: u32 = 3;
 
@@ -67,8 +38,36 @@ const LAST_SIDE: u32 = 2;
 
 const LAST_COMPARISON: u32 = 4;
 
-// The fields of a record: kind, variant, count, A and B.
-#[derive(Clone, Copy)]
+// The kinds of records, each by its number.
+#[derive(Clone, Copy, Debug, PartialEq, Eq)]
+pub enum Kind {
+    MessageType = 1,
+    Attribute = 2,
+    Path = 3,
+    Item = 4,
+    Peer = 5,
+    Loops = 6,
+    Bogon = 7,
+    Network = 8,
+    Time = 9,
+    Flip = 10,
+    And = 11,
+    Or = 12,
+    Communities = 13,
+}
+
+// What a record of a kind is.
+#[derive(Clone, Copy, Debug, PartialEq, Eq)]
+pub enum Class {
+    Test,
+    Item,
+    Flip,
+    Pass,
+}
+
+// The fields of a record: kind, variant, count, A and B. The kind is the number that its bytes hold, which may be no kind's: a program
+// that isn't valid has fields too.
+#[derive(Clone, Copy, Debug, PartialEq, Eq)]
 pub struct Fields {
     pub kind: u32,
     pub variant: u32,
@@ -78,83 +77,53 @@ pub struct Fields {
 }
 
 // What judging spends: the steps.
-#[derive(Clone, Copy)]
+#[derive(Clone, Copy, Debug, PartialEq, Eq)]
 pub struct Spent {
     pub steps: u32,
 }
 
-// What a record of a kind is; of a kind that is none, unknown.
-#[derive(Clone, Copy)]
-pub enum Class {
-    Test,
-    Item,
-    Flip,
-    Pass,
-    Unknown,
-}
-
-// The class of a kind.
-pub fn class_of(kind: u32) -> Class
-    ensures { result ≡ class_is kind }
+// The kind that a number stands for, if it is one.
+#[tactic(auto, unfolding(crate::specs::Kinds::kind_is))]
+pub fn kind_of(number: u32) -> Option<Kind>
+    ensures { result ≡ kind_is number }
 {
-    if TIME < kind {
-        if kind == FLIP {
-            return Class::Flip;
-        }
-        if kind == AND {
-            return Class::Pass;
-        }
-        if kind == OR {
-            return Class::Pass;
-        }
-        if kind == COMMUNITIES {
-            return Class::Test;
-        }
-        return Class::Unknown;
-    }
-    if kind == ITEM {
-        return Class::Item;
-    }
-    if kind < TYPE {
-        return Class::Unknown;
-    }
-    Class::Test
-}
-
-fn is_test(class: Class) -> bool
-    ensures { result ≡ is_test_class class }
-{
-    match class {
-        Class::Test => true,
-        Class::Item => false,
-        Class::Flip => false,
-        Class::Pass => false,
-        Class::Unknown => false,
+    match number {
+        1 => Some(Kind::MessageType),
+        2 => Some(Kind::Attribute),
+        3 => Some(Kind::Path),
+        4 => Some(Kind::Item),
+        5 => Some(Kind::Peer),
+        6 => Some(Kind::Loops),
+        7 => Some(Kind::Bogon),
+        8 => Some(Kind::Network),
+        9 => Some(Kind::Time),
+        10 => Some(Kind::Flip),
+        11 => Some(Kind::And),
+        12 => Some(Kind::Or),
+        13 => Some(Kind::Communities),
+        _ => None,
     }
 }
 
-fn is_item(class: Class) -> bool
-    ensures { result ≡ is_item_class class }
+// The class of the kind that a number stands for.
+#[tactic(auto, unfolding(crate::specs::Kinds::class_is))]
+pub fn class_of(number: u32) -> Option<Class>
+    ensures { result ≡ class_is number }
 {
-    match class {
-        Class::Test => false,
-        Class::Item => true,
-        Class::Flip => false,
-        Class::Pass => false,
-        Class::Unknown => false,
-    }
-}
-
-fn is_pass(class: Class) -> bool
-    ensures { result ≡ is_pass_class class }
-{
-    match class {
-        Class::Test => false,
-        Class::Item => false,
-        Class::Flip => false,
-        Class::Pass => true,
-        Class::Unknown => false,
-    }
+    Some(match kind_of(number)? {
+        Kind::Item => Class::Item,
+        Kind::Flip => Class::Flip,
+        Kind::And | Kind::Or => Class::Pass,
+        Kind::MessageType
+        | Kind::Attribute
+        | Kind::Path
+        | Kind::Peer
+        | Kind::Loops
+        | Kind::Bogon
+        | Kind::Network
+        | Kind::Time
+        | Kind::Communities => Class::Test,
+    })
 }
 
 // The fields of the record at a place; past the end they are 0.
@@ -186,52 +155,23 @@ pub fn put_record(out: &mut [u8], at: usize, f: Fields) -> usize
 fn right_code(f: Fields) -> bool
     ensures { result ≡ right_code f }
 {
-    if f.variant != 0 {
-        return false;
-    }
-    if f.count != 0 {
-        return false;
-    }
-    if CODE_LIMIT <= f.a {
-        return false;
-    }
-    f.b == 0
+    f.variant == 0 && f.count == 0 && f.a < CODE_LIMIT && f.b == 0
 }
 
 fn right_path(f: Fields) -> bool
     ensures { result ≡ right_path f }
 {
-    if LAST_ENDS < f.variant {
-        return false;
-    }
-    if COUNT_LIMIT <= f.count {
-        return false;
-    }
-    if f.a != 0 {
-        return false;
-    }
-    if f.b != 0 {
-        return false;
-    }
-    f.variant + f.count != 0
+    f.variant <= LAST_ENDS
+        && f.count < COUNT_LIMIT
+        && f.a == 0
+        && f.b == 0
+        && f.variant + f.count != 0
 }
 
 fn right_item(f: Fields) -> bool
     ensures { result ≡ right_item f }
 {
-    if LAST_ITEM < f.variant {
-        return false;
-    }
-    if f.count != 0 {
-        return false;
-    }
-    if f.b != 0 {
-        return false;
-    }
-    if f.variant == LAST_ITEM {
-        return f.a == 0;
-    }
-    true
+    f.variant <= LAST_ITEM && f.count == 0 && f.b == 0 && (f.variant != LAST_ITEM || f.a == 0)
 }
 
 fn right_peer(f: Fields) -> bool
@@ -240,189 +180,117 @@ fn right_peer(f: Fields) -> bool
     if f.count != 0 {
         return false;
     }
-    if f.variant == 1 {
-        return f.a == 0;
+    match f.variant {
+        1 => f.a == 0,
+        2 => f.b == 0,
+        3 => true,
+        _ => false,
     }
-    if f.variant == 2 {
-        return f.b == 0;
-    }
-    f.variant == 3
 }
 
 fn right_network(f: Fields) -> bool
     ensures { result ≡ right_network f }
 {
-    if LAST_RELATION < f.variant {
-        return false;
-    }
-    if network::ADDRESS_BITS < f.count {
-        return false;
-    }
-    if LAST_SIDE < f.b {
-        return false;
-    }
-    let n = network::network_of(f.a, f.count);
-    n.address == f.a
+    f.variant <= LAST_RELATION
+        && f.count <= network::ADDRESS_BITS
+        && f.b <= LAST_SIDE
+        && network::network_of(f.a, f.count).address == f.a
 }
 
 fn right_time(f: Fields) -> bool
     ensures { result ≡ right_time f }
 {
-    if LAST_COMPARISON < f.variant {
-        return false;
-    }
-    if f.count != 0 {
-        return false;
-    }
-    f.b < SECOND
-}
-
-fn right_communities(f: Fields) -> bool
-    ensures { result ≡ right_communities f }
-{
-    if f.variant != 0 {
-        return false;
-    }
-    if f.count < 1 {
-        return false;
-    }
-    if COUNT_LIMIT <= f.count {
-        return false;
-    }
-    if f.a != 0 {
-        return false;
-    }
-    f.b == 0
+    f.variant <= LAST_COMPARISON && f.count == 0 && f.b < SECOND
 }
 
 fn right_bare(f: Fields) -> bool
     ensures { result ≡ right_bare f }
 {
-    if f.variant != 0 {
-        return false;
-    }
-    if f.count != 0 {
-        return false;
-    }
-    if f.a != 0 {
-        return false;
-    }
-    f.b == 0
+    f.variant == 0 && f.count == 0 && f.a == 0 && f.b == 0
 }
 
-fn right_pass(f: Fields) -> bool
-    ensures { result ≡ right_pass f }
+// A count of one or more, up to the last that may stand.
+fn right_counted(f: Fields, last: u32) -> bool
+    ensures { result ≡ right_counted last f }
 {
-    if f.variant != 0 {
-        return false;
-    }
-    if f.count < 1 {
-        return false;
-    }
-    if PASS_LIMIT < f.count {
-        return false;
-    }
-    if f.a != 0 {
-        return false;
-    }
-    f.b == 0
+    f.variant == 0 && 1 <= f.count && f.count <= last && f.a == 0 && f.b == 0
 }
 
 // Whether the fields of a kind are in their ranges and those that it leaves unused zero.
+#[tactic(auto, unfolding(crate::specs::Checks::right_fields))]
 fn right_fields(f: Fields) -> bool
     ensures { result ≡ right_fields f }
 {
-    let kind = f.kind;
+    let Some(kind) = kind_of(f.kind) else {
+        return false;
+    };
     match kind {
-        TYPE => right_code(f),
-        ATTRIBUTE => right_code(f),
-        PATH => right_path(f),
-        ITEM => right_item(f),
-        PEER => right_peer(f),
-        LOOPS => right_bare(f),
-        BOGON => right_bare(f),
-        NETWORK => right_network(f),
-        TIME => right_time(f),
-        FLIP => right_bare(f),
-        AND => right_pass(f),
-        OR => right_pass(f),
-        COMMUNITIES => right_communities(f),
-        _ => false,
+        Kind::MessageType | Kind::Attribute => right_code(f),
+        Kind::Path => right_path(f),
+        Kind::Item => right_item(f),
+        Kind::Peer => right_peer(f),
+        Kind::Loops | Kind::Bogon | Kind::Flip => right_bare(f),
+        Kind::Network => right_network(f),
+        Kind::Time => right_time(f),
+        Kind::And | Kind::Or => right_counted(f, PASS_LIMIT),
+        Kind::Communities => right_counted(f, COUNT_LIMIT - 1),
     }
 }
 
-// Whether the record at a place is one that compiling some text could give.
-fn right_record(program: &[u8], at: usize) -> bool
-    requires { at + record_size ≤ length program.now }
-    ensures { result ≡ right_record (drop at program.now) }
+// Whether the record at the front is one that compiling some text could give.
+fn right_record(records: &[u8]) -> bool
+    ensures { result ≡ right_record records.now }
 {
-    if !right_fields(fields_at(program, at)) {
-        return false;
-    }
-    octets::number(program, at + 12, 4) == 0
+    right_fields(fields_at(records, 0)) && octets::number(records, 12, 4) == 0
 }
 
 // Whether every record is.
 fn all_right(program: &[u8]) -> bool
-    ensures { result ≡ all_right_in (length program.now) program.now }
+    ensures { result ≡ each_record right_record (length program.now / record_size) program.now }
 {
-    let mut at = 0;
-    while RECORD_SIZE <= program.len() - at {
-        if !right_record(program, at) {
-            return false;
-        }
-        at += RECORD_SIZE;
-    }
-    true
+    (0..program.len() / RECORD_SIZE).all(|n| right_record(octets::rest(program, RECORD_SIZE * n)))
 }
 
 // Whether a record is an item of a variant up to the last that may stand.
+#[tactic(auto, using(crate::proofs::KindLaws::kind_test))]
 fn holds_item(f: Fields, last: u32) -> bool
     ensures { result ≡ is_item last f }
 {
-    if f.kind != ITEM {
-        return false;
-    }
-    f.variant <= last
+    kind_of(f.kind) == Some(Kind::Item) && f.variant <= last
 }
 
-// Whether so many of them stand at the front of records.
-fn items_stand(records: &[u8], count: usize, last: u32) -> bool
+// Whether one stands at the front.
+fn item_stands(records: &[u8], last: u32) -> bool
+    ensures { result ≡ item_stands last records.now }
+{
+    RECORD_SIZE <= records.len() && holds_item(fields_at(records, 0), last)
+}
+
+// Whether so many of them do.
+fn items_stand(records: &[u8], count: u32, last: u32) -> bool
     ensures { result ≡ items_stand last count records.now }
 {
-    let mut at = 0;
-    let mut left = count;
-    while 0 < left {
-        if records.len() - at < RECORD_SIZE {
-            return false;
-        }
-        if !holds_item(fields_at(records, at), last) {
-            return false;
-        }
-        at += RECORD_SIZE;
-        left -= 1;
-    }
-    true
+    (0..count).all(|n| item_stands(octets::rest(records, RECORD_SIZE * n as usize), last))
 }
 
 // How many records follow a record of these fields: the items of a path, or communities.
+#[tactic(auto, using(crate::proofs::KindLaws::kind_test), unfolding(crate::specs::Checks::following_in))]
 pub fn following(f: Fields) -> u32
     ensures { result ≡ following_in f }
 {
-    if f.kind == PATH {
-        return f.count;
-    }
-    if f.kind == COMMUNITIES {
+    let kind = kind_of(f.kind);
+    if kind == Some(Kind::Path) || kind == Some(Kind::Communities) {
         return f.count;
     }
     0
 }
 
 // The last variant of the items that may follow it.
+#[tactic(auto, using(crate::proofs::KindLaws::kind_test), unfolding(crate::specs::Checks::last_item))]
 fn last_item(f: Fields) -> u32
     ensures { result ≡ last_item f }
 {
-    if f.kind == COMMUNITIES {
+    if kind_of(f.kind) == Some(Kind::Communities) {
         return LAST_NUMBER;
     }
     LAST_ITEM
@@ -432,39 +300,26 @@ fn last_item(f: Fields) -> u32
 pub fn follows(f: Fields, records: &[u8]) -> bool
     ensures { result ≡ follows_in f records.now }
 {
-    items_stand(records, following(f) as usize, last_item(f))
+    items_stand(records, following(f), last_item(f))
 }
 
-// The bytes of a test of these fields with the records from a place on that follow it, 0 where these aren't what may follow it.
-fn test_size(f: Fields, program: &[u8], next: usize) -> usize
-    ensures { result ≡ group_of Test f (drop next program.now) }
+// The bytes of the record at the front with those that follow it, if it and they may stand there.
+fn group_size(records: &[u8]) -> Option<usize>
+    ensures { result ≡ sized (group_size records.now) }
 {
-    let count = following(f) as usize;
-    if count == 0 {
-        return RECORD_SIZE;
+    if records.len() < RECORD_SIZE {
+        return None;
     }
-    if !items_stand(octets::rest(program, next), count, last_item(f)) {
-        return 0;
-    }
-    RECORD_SIZE + RECORD_SIZE * count
-}
-
-// The bytes of the record at a place with those that follow it, 0 where it or they can't stand there.
-fn group_size(program: &[u8], at: usize) -> usize
-    requires { at ≤ length program.now }
-    ensures { result ≡ group_size (drop at program.now) }
-{
-    if program.len() - at < RECORD_SIZE {
-        return 0;
-    }
-    let f = fields_at(program, at);
-    let class = class_of(f.kind);
-    match class {
-        Class::Test => test_size(f, program, at + RECORD_SIZE),
-        Class::Item => 0,
-        Class::Flip => RECORD_SIZE,
-        Class::Pass => RECORD_SIZE,
-        Class::Unknown => 0,
+    let f = fields_at(records, 0);
+    match class_of(f.kind)? {
+        Class::Test => {
+            if !follows(f, octets::rest(records, RECORD_SIZE)) {
+                return None;
+            }
+            Some(RECORD_SIZE + RECORD_SIZE * following(f) as usize)
+        }
+        Class::Item => None,
+        Class::Flip | Class::Pass => Some(RECORD_SIZE),
     }
 }
 
@@ -472,78 +327,49 @@ fn group_size(program: &[u8], at: usize) -> usize
 fn grouped(program: &[u8]) -> bool
     ensures { result ≡ whole group_size program.now }
 {
-    let mut at = 0;
-    while at < program.len() {
-        let size = group_size(program, at);
-        if size == 0 {
-            return false;
-        }
-        at += size;
+    let mut rest = program;
+    while let Some(size) = group_size(rest) {
+        rest = octets::rest(rest, size);
     }
-    true
+    rest.is_empty()
 }
 
-// Whether the record at a place is no pass, or one that lands on a record that is no item or exactly at the end.
-fn lands(program: &[u8], at: usize) -> bool
-    ensures { result ≡ lands_well (drop at program.now) }
+// Whether the record at the front is no pass, or one that lands on a record that is no item or exactly at the end.
+fn lands(records: &[u8]) -> bool
+    ensures { result ≡ lands_well records.now }
 {
-    let rest = octets::rest(program, at);
-    let f = fields_at(program, at);
-    if !is_pass(class_of(f.kind)) {
+    let f = fields_at(records, 0);
+    if class_of(f.kind) != Some(Class::Pass) {
         return true;
     }
-    let target = RECORD_SIZE + RECORD_SIZE * (f.count as usize);
-    if rest.len() < target {
-        return false;
-    }
-    if is_item(class_of(octets::number(rest, target, 1))) {
-        return false;
-    }
-    true
+    let target = RECORD_SIZE + RECORD_SIZE * f.count as usize;
+    target <= records.len() && class_of(octets::number(records, target, 1)) != Some(Class::Item)
 }
 
 // Whether every pass does.
 fn landing(program: &[u8]) -> bool
-    ensures { result ≡ landing_in (length program.now) program.now }
+    ensures { result ≡ each_record lands_well (length program.now / record_size) program.now }
 {
-    let mut at = 0;
-    while RECORD_SIZE <= program.len() - at {
-        if !lands(program, at) {
-            return false;
-        }
-        at += RECORD_SIZE;
-    }
-    true
+    (0..program.len() / RECORD_SIZE).all(|n| lands(octets::rest(program, RECORD_SIZE * n)))
 }
 
 // Whether a program begins with a test.
 fn starts(program: &[u8]) -> bool
     ensures { result ≡ is_test_class (class_is (get_or program.now 0 0)) }
 {
-    is_test(class_of(octets::number(program, 0, 1)))
+    class_of(octets::number(program, 0, 1)) == Some(Class::Test)
 }
 
 // Whether bytes are a valid program.
+#[tactic(auto, unfolding(crate::specs::Checks::is_valid))]
 pub fn is_valid(program: &[u8]) -> bool
     ensures { result ≡ is_valid program.now }
 {
-    if program.len() < RECORD_SIZE {
-        return false;
-    }
-    if PROGRAM_LIMIT < program.len() {
-        return false;
-    }
-    if program.len() % RECORD_SIZE != 0 {
-        return false;
-    }
-    if !all_right(program) {
-        return false;
-    }
-    if !starts(program) {
-        return false;
-    }
-    if !grouped(program) {
-        return false;
-    }
-    landing(program)
+    RECORD_SIZE <= program.len()
+        && program.len() <= PROGRAM_LIMIT
+        && program.len() % RECORD_SIZE == 0
+        && all_right(program)
+        && starts(program)
+        && grouped(program)
+        && landing(program)
 }

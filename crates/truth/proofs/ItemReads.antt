@@ -1,5 +1,5 @@
 -- Laws of the items at the front of a program's records, all of them or numbers alone. Assumes nothing.
-use Prim.Native.Nat.{ℕ, zero, suc, ◌≤◌, ◌<◌}
+use Prim.Native.Nat.{ℕ, zero, suc, ◌+◌, ◌-◌, ◌*◌, ◌≤◌, ◌<◌}
 use native.Mathlib.Nat.{lt_of_not-le}
 use native.Mathlib.Decide.{dec_le, ℕ_discrete}
 use native.Mathlib.Omega.{arith}
@@ -8,8 +8,9 @@ use mathlib.Core.Bool.{Bool, true, false}
 use Rattle.std.specs.Prelude.{Option, None, Some}
 use mathlib.Core.List.{List, [], ◌∷◌}
 use lib.ListN.{length, take, drop}
+use lib.Seq.{drop-drop}
 use lib.Dec.{eqb, leb, ltb, eqb-zero-suc, eqb-suc-suc}
-use borrow.Author.Tests.{lt-ltb, le-ltb, lt-leb, ne_eqb, eqb-true, leb-true}
+use borrow.Author.Tests.{lt-leb, ne_eqb, eqb-true, leb-true, lt-leb, le-leb, leb-true}
 use Rattle.octets.specs.Choice.{both, onward, otherwise}
 use Rattle.octets.proofs.Choices.{never, each, alike}
 use Rattle.octets.proofs.Ranges.{within}
@@ -21,7 +22,7 @@ use Rattle.program.specs.Records.{Head, Record, head, item, flip, pass, peer, ti
 use Rattle.program.specs.Kinds.{path_kind, item_kind, communities_kind}
 use Rattle.program.specs.Layout.{record_size, relation_is, side_is, comparison_is, item_is, peer_is, path_is, operand_of, network_said}
 use Rattle.program.specs.Layout.{fields_in, record_is, decode, records_up_to, records_in}
-use Rattle.program.specs.Checks.{last_variant, number_variant, is_item, items_stand, following_in, last_item, follows_in}
+use Rattle.program.specs.Checks.{last_variant, number_variant, is_item, item_stands, items_stand, each_record, following_in, last_item, follows_in}
 use Rattle.program.proofs.LayoutLaws.{records_none, records_next}
 use Rattle.truth.specs.Means.{if_any}
 use Rattle.truth.specs.Records.{item_of, number_of, each_of}
@@ -133,7 +134,7 @@ records_stop (suc f) l e = rw e (alike (ltb (length l) record_size) refl refl)
 module _ {A : Type 0} {one : Record → Option A} {last : ℕ} (finds : Finds one last) where
   -- they stand there where the records are so many of them
   stand_is : (n : ℕ) (l : List ℕ) → items_stand last n l ≡ if_any (each_of one (take n (records_in l))) (λ xs. eqb (length xs) n)
-  unfolding items_stand each_of
+  unfolding each_record each_of
   stand_is zero l = refl
   stand_is (suc n) l = go (dec_le record_size (length l)) (decode l) refl (stand_is n (drop record_size l))
     where
@@ -152,9 +153,9 @@ module _ {A : Type 0} {one : Record → Option A} {last : ℕ} (finds : Finds on
       go : Dec (record_size ≤ length l) → (o : Option Record) → decode l ≡ o
           → items_stand last n (drop record_size l) ≡ if_any rest (λ xs. eqb (length xs) n)
           → items_stand last (suc n) l ≡ if_any (each_of one (take (suc n) (records_in l))) (λ xs. eqb (length xs) (suc n))
-      go (no h) o e ih = rw (lt-ltb _ _ (lt_of_not-le h), records_none l (lt_of_not-le h)) (sym (eqb-zero-suc n))
-      go (yes h) None e ih = rw (le-ltb _ _ h, finds.said (fields_in l), e, records_stop (length l) l e) (sym (eqb-zero-suc n))
-      go (yes h) (Some r) e ih = rw (le-ltb _ _ h, finds.said (fields_in l), e, records_next l h e) (by (one r) ih)
+      go (no h) o e ih = rw (lt-leb _ _ (lt_of_not-le h), records_none l (lt_of_not-le h)) (sym (eqb-zero-suc n))
+      go (yes h) None e ih = rw (le-leb _ _ h, finds.said (fields_in l), e, records_stop (length l) l e) (sym (eqb-zero-suc n))
+      go (yes h) (Some r) e ih = rw (le-leb _ _ h, finds.said (fields_in l), e, records_next l h e) (by (one r) ih)
 
   -- what is true of so many records
   pub each_true : (n : ℕ) (l : List ℕ) (test : List A → Bool)
@@ -184,8 +185,8 @@ pub record Next {A : Type 0} (one : Record → Option A) (last n more : ℕ) (l 
 
 module _ {A : Type 0} {one : Record → Option A} {last : ℕ} (finds : Finds one last) where
   next_of : (n : ℕ) (l : List ℕ) → items_stand last (suc n) l ≡ true → Next one last (suc n) n l
-  unfolding items_stand
-  next_of n l s = go (dec_le record_size (length l))
+  unfolding each_record
+  next_of n l s = stood (each (item_stands last l) (items_stand last n (drop record_size l)) s)
     where
       put : (a : A) (o : Option (List A)) → if_any o (λ xs. eqb (length xs) n) ≡ true → otherwise (onward o (λ xs. Some (a ∷ xs))) [] ≡ a ∷ otherwise o []
       put a None e = never e
@@ -198,13 +199,21 @@ module _ {A : Type 0} {one : Record → Option A} {last : ℕ} (finds : Finds on
           unfold each_in in unfold each_of in
           rw (records_next l f e, d) (put a (each_of one (take n (records_in (drop record_size l)))) (sym (stand_is finds n (drop record_size l)) ∙ r))
 
-      go : Dec (record_size ≤ length l) → Next one last (suc n) n l
-      go (no h) = never (rw (lt-ltb _ _ (lt_of_not-le h)) at s)
-      go (yes h) =
-          let x = each (is_item last (fields_in l)) (items_stand last n (drop record_size l)) (rw (le-ltb _ _ h) at s) in
-          let i = present_some (onward (decode l) one) (sym (finds.said (fields_in l)) ∙ x.0) in
-          record { fits = h; is_item_lem = x.0; rest = x.1; first = i.0; decoded = i.1; all = joined h (decode l) refl i.1 x.1 }
+      stood : (item_stands last l ≡ true) × (items_stand last n (drop record_size l) ≡ true) → Next one last (suc n) n l
+      stood (e, r) =
+          let x = each (leb record_size (length l)) (is_item last (fields_in l)) e in
+          let h = leb-true _ _ x.0 in
+          let i = present_some (onward (decode l) one) (sym (finds.said (fields_in l)) ∙ x.1) in
+          record { fits = h; is_item_lem = x.1; rest = r; first = i.0; decoded = i.1; all = joined h (decode l) refl i.1 r }
 
   -- where so many stand, one or more, the first is one
   pub next : {n : ℕ} (more : ℕ) (l : List ℕ) → n ≡ suc more → items_stand last n l ≡ true → Next one last n more l
   next more l e s = rw e (next_of more l (rw e at s))
+
+  -- and where n of them have been passed, the next is one
+  pub next_left : {n count : ℕ} (l : List ℕ) → n < count → items_stand last (count - n) l ≡ true → Next one last (count - n) (count - (n + 1)) l
+  next_left l h s = next _ l (omega arith) s
+
+-- the records after it
+pub passed_next : (n : ℕ) (l : List ℕ) → drop record_size (drop (record_size * n) l) ≡ drop (record_size * (n + 1)) l
+passed_next n l = drop-drop record_size (record_size * n) l ∙ ap (λ (k : ℕ). drop k l) (omega arith)

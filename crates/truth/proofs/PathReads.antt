@@ -1,65 +1,63 @@
--- Laws of a pattern's items against the members from a cursor on. Assumes nothing.
+-- Laws of a pattern's items against the members that are left. Assumes nothing.
 use Prim.Native.Nat.{ℕ}
-use mathlib.Core.Path.{◌≡◌, refl}
-use mathlib.Core.Bool.{Bool, true, false}
+use Rattle.std.specs.Prelude.{Option, Some, None, is_some}
+use Rattle.std.specs.Iterator.{YieldsFirstBy}
+use mathlib.Core.Path.{◌≡◌, refl, sym}
+use mathlib.Core.Bool.{Bool, true, false, not}
 use mathlib.Core.List.{List, [], ◌∷◌}
+use Rattle.octets.proofs.Choices.{never}
 use Rattle.aspath.specs.declared.Item.{Item}
-use Rattle.aspath.specs.declared.Cursor.{Cursor}
-use Rattle.aspath.specs.declared.Next.{Next}
-use Rattle.aspath.specs.declared.Next.TheVariants as next
+use Rattle.aspath.specs.declared.Members.{Members}
 use Rattle.aspath.specs.Members.{Member, member_of}
-use Rattle.aspath.specs.Cursors.{remaining, next_at}
+use Rattle.aspath.specs.Cursors.{left}
 use Rattle.aspath.specs.Patterns.{fits, matches_here, matches_some, matches}
-use Rattle.aspath.proofs.Cursors.{member_view, end_view}
 use Rattle.program.specs.declared.Fields.{Fields}
 use Rattle.program.specs.Layout.{is_start, is_end}
-use Rattle.truth.specs.Matching.{ends_at, matches_at, pattern_of}
+use Rattle.truth.specs.Matching.{pattern_of}
 
-module _ (end : Bool) (w : ℕ) (s : List ℕ) where
-  module _ (c : Cursor) where
-    -- no item is left, and the path has to end
-    pub at_last : end ≡ true → matches_at end [] w s c ≡ ends_at (next_at w s c)
-    unfolding matches_at
-    at_last e = rw e refl
+module _ (m after : Members) where
+  -- a step that gives nothing had nothing left
+  pub ended : (r : Option ℕ) → YieldsFirstBy member_of left m r after → is_some r ≡ false → left m ≡ []
+  ended None s e = s.0
+  ended (Some n) s e = never (sym e)
 
-    -- it hasn't
-    pub at_none : end ≡ false → matches_at end [] w s c ≡ true
-    unfolding matches_at
-    at_none e = rw e refl
+  -- one that gives a member had it left, and those after it
+  pub stepped : (r : Option ℕ) → YieldsFirstBy member_of left m r after → is_some r ≡ true → (n : ℕ) × (left m ≡ member_of n ∷ left after)
+  stepped None s e = never e
+  stepped (Some n) s e = (n, s)
 
-    module _ (i : Item) (is : List Item) where
-      -- an item is left and no member
-      pub at_end : next_at w s c ≡ next.End → matches_at end (i ∷ is) w s c ≡ false
-      unfolding matches_at
-      at_end e = rw e refl
+  -- no item is left, and the path has to end: no member may be
+  pub here_last : (end : Bool) (r : Option ℕ) (none : Bool) → end ≡ true → YieldsFirstBy member_of left m r after → is_some r ≡ not none
+      → none ≡ matches_here end [] (left m)
+  unfolding matches_here
+  here_last end None true t s e = rw s.0 refl
+  here_last end None false t s e = never e
+  here_last end (Some n) true t s e = never (sym e)
+  here_last end (Some n) false t s e = rw (s, t) refl
 
-      module _ {n : ℕ} {after : Cursor} (e : next_at w s c ≡ next.Member n after) where
-        -- the item doesn't match the member
-        pub at_other : fits i (member_of n) ≡ false → matches_at end (i ∷ is) w s c ≡ false
-        unfolding matches_at
-        at_other h = rw (e, h) refl
+module _ (end : Bool) where
+  -- no item is left, and the path has not to end
+  pub here_all : (ms : List Member) → end ≡ false → matches_here end [] ms ≡ true
+  unfolding matches_here
+  here_all [] e = refl
+  here_all (m ∷ ms) e = rw e refl
 
-        -- it does
-        pub at_next : fits i (member_of n) ≡ true → matches_at end (i ∷ is) w s c ≡ matches_at end is w s after
-        unfolding matches_at
-        at_next h = rw (e, h) refl
+  module _ (i : Item) (is : List Item) where
+    -- an item is left and no member
+    pub here_end : matches_here end (i ∷ is) [] ≡ false
+    unfolding matches_here
+    here_end = refl
 
-  -- what the items match from a cursor on, they match of the members from it on
-  pub at_members : (is : List Item) (c : Cursor) → matches_at end is w s c ≡ matches_here end is (remaining w s c)
-  unfolding matches_at matches_here
-  at_members [] c = go (next_at w s c) refl end
-    where
-      go : (n : Next) → next_at w s c ≡ n → (e : Bool) → matches_at e [] w s c ≡ matches_here e [] (remaining w s c)
-      go (next.Member n after) e true = rw (e, member_view w s c e) refl
-      go (next.Member n after) e false = rw (member_view w s c e) refl
-      go next.End e true = rw (e, end_view w s c e) refl
-      go next.End e false = rw (end_view w s c e) refl
-  at_members (i ∷ is) c = go (next_at w s c) refl (at_members is)
-    where
-      go : (n : Next) → next_at w s c ≡ n → ((d : Cursor) → matches_at end is w s d ≡ matches_here end is (remaining w s d))
-          → matches_at end (i ∷ is) w s c ≡ matches_here end (i ∷ is) (remaining w s c)
-      go (next.Member n after) e ih = rw (e, member_view w s c e, ih after) refl
-      go next.End e ih = rw (e, end_view w s c e) refl
+    module _ (m : Member) (ms : List Member) where
+      -- the item doesn't match the member
+      pub here_other : fits i m ≡ false → matches_here end (i ∷ is) (m ∷ ms) ≡ false
+      unfolding matches_here
+      here_other h = rw h refl
+
+      -- it does
+      pub here_next : fits i m ≡ true → matches_here end (i ∷ is) (m ∷ ms) ≡ matches_here end is ms
+      unfolding matches_here
+      here_next h = rw h refl
 
 -- ---- from some place on
 

@@ -1,12 +1,10 @@
 -- Laws of the search among the prefixes of a section. Assumes nothing.
-use Prim.Native.Nat.{ℕ, ◌<◌}
-use native.Mathlib.Omega.{arith}
+use Prim.Native.Nat.{ℕ}
 use mathlib.Core.Path.{◌≡◌, refl, ap, ◌∙◌}
 use mathlib.Core.Bool.{true, false}
 use Rattle.std.specs.Prelude.{Some}
 use mathlib.Core.List.{List}
 use lib.ListN.{drop}
-use borrow.Author.Tests.{ne_eqb}
 use Rattle.octets.specs.Choice.{pick}
 use Rattle.octets.proofs.Some.{passes_none, passes_here, passes_later, passes_append}
 use Rattle.octets.proofs.Rows.{items_end, items_next}
@@ -21,32 +19,9 @@ use Rattle.program.specs.Layout.{relation_is, operand_of}
 use Rattle.truth.specs.Means.{some_prefix}
 use Rattle.truth.specs.Matching.{network_test}
 
-module _ (r : Relation) (operand : Network) where
-  module _ (l : List ℕ) where
-    -- no prefix stands at the front
-    pub some_end : prefix_size address_bits l ≡ 0 → some_prefix r operand (networks_of l) ≡ false
-    unfolding some_prefix
-    some_end z = rw (items_end (prefix_size address_bits) (network_of address_bits) l z) (passes_none _)
-
-    -- one that relates does
-    pub some_first : (prefix_size address_bits l ≡ 0 → ⊥) → relates r operand (network_of address_bits l) ≡ true → some_prefix r operand (networks_of l) ≡ true
-    unfolding some_prefix
-    some_first n h = rw (items_next (prefix_size address_bits) (network_of address_bits) (prefix_sizes address_bits) l n) (passes_here _ (network_of address_bits l) _ h)
-
-    -- one that doesn't
-    pub some_later : (prefix_size address_bits l ≡ 0 → ⊥) → relates r operand (network_of address_bits l) ≡ false
-        → some_prefix r operand (networks_of l) ≡ some_prefix r operand (networks_of (drop (prefix_size address_bits l) l))
-    unfolding some_prefix
-    some_later n h = ap (some_prefix r operand) (items_next (prefix_size address_bits) (network_of address_bits) (prefix_sizes address_bits) l n) ∙ passes_later _ (network_of address_bits l) _ h
-
 -- ---- a network's test
 
 module _ (f : Fields) (s : List ℕ) (p : Parts) where
-  -- a variant over 3 is none
-  pub no_relation : 3 < f.variant → network_test f (message_at s p) ≡ false
-  no_relation h =
-      simp (ne_eqb f.variant 0 (λ e. omega arith), ne_eqb f.variant 1 (λ e. omega arith), ne_eqb f.variant 2 (λ e. omega arith), ne_eqb f.variant 3 (λ e. omega arith))
-
   -- by the side
   module _ {r : Relation} (known : relation_is f.variant ≡ Some r) where
     pub on_announced : f.b ≡ 1 → network_test f (message_at s p) ≡ some_prefix r (operand_of f) (networks_of (part_of s p.announced))
@@ -62,6 +37,3 @@ module _ (f : Fields) (s : List ℕ) (p : Parts) where
         ≡ pick (some_prefix r (operand_of f) (networks_of (part_of s p.announced))) true (some_prefix r (operand_of f) (networks_of (part_of s p.withdrawn)))
     unfolding message_at some_prefix
     on_either e = rw (known, e) (passes_append _ (networks_of (part_of s p.announced)) (networks_of (part_of s p.withdrawn)))
-
-    pub on_none : (f.b ≡ 1 → ⊥) → (f.b ≡ 2 → ⊥) → (f.b ≡ 0 → ⊥) → network_test f (message_at s p) ≡ false
-    on_none g h k = simp (known, ne_eqb _ _ g, ne_eqb _ _ h, ne_eqb _ _ k)

@@ -25,9 +25,11 @@ use Rattle.message.specs.declared.Parts.{Parts}
 use Rattle.message.specs.Message.{Message, update}
 use Rattle.message.specs.Decode.{part_of, message_at}
 use Rattle.program.specs.declared.Fields.{Fields}
+use Rattle.program.specs.declared.Kind.TheVariants as kind
 use Rattle.program.specs.Readings.{Side}
 use Rattle.program.specs.Records.{Head, path, peer, time, communities, Record, head, item, count_of}
-use Rattle.program.specs.Kinds.{type_kind, attribute_kind, path_kind, peer_kind, loops_kind, bogon_kind, network_kind, time_kind, communities_kind}
+use Rattle.program.specs.Kinds.{type_kind, attribute_kind, path_kind, peer_kind, loops_kind, bogon_kind, network_kind, time_kind, communities_kind, kind_is}
+use Rattle.program.proofs.KindLaws.{no_kind}
 use Rattle.program.specs.Layout.{record_size, relation_is, side_is, comparison_is, item_is, peer_is, is_start, is_end, path_is, operand_of, network_said}
 use Rattle.program.specs.Layout.{fields_in, record_is, records_in}
 use Rattle.program.specs.Checks.{last_variant, number_variant, items_stand, following_in, last_item, follows_in}
@@ -120,6 +122,13 @@ module _ (s : List ℕ) (p : Parts) (program : List ℕ) (at : ℕ) {f : Fields}
   fields_said : truth_at m program at ≡ said m (behind program at) (record_is f)
   unfolding truth_at
   fields_said = rw (read, drop-drop record_size at program) refl
+
+  -- a number that stands for no kind
+  pub unknown_true : kind_is f.kind ≡ None → truth_at m program at ≡ false
+  unknown_true e =
+      fields_said
+      ∙ none_said m (behind program at) f (no_kind e kind.MessageType) (no_kind e kind.Attribute) (no_kind e kind.Path) (no_kind e kind.Peer)
+      (no_kind e kind.Loops) (no_kind e kind.Bogon) (no_kind e kind.Network) (no_kind e kind.Time) (no_kind e kind.Communities)
 
   -- the type
   pub type_true : f.kind ≡ type_kind → truth_at m program at ≡ eqb p.code f.a

@@ -1,12 +1,12 @@
 // Whether a test is true of a message.
 #![tactic(auto)]
 
-ghost use Rattle.std.specs.Prelude.{◌≡◌, true, ◌+◌, ◌*◌, ◌≤◌, drop, Some};
+ghost use Rattle.std.specs.Prelude.{◌≡◌, true, ◌+◌, ◌*◌, drop, Some};
 ghost use Rattle.network.specs.Networks.{network_in};
 ghost use Rattle.aspath.specs.Members.{members};
 ghost use Rattle.aspath.specs.Wire.{width_bytes, members_of};
-ghost use Rattle.aspath.specs.Patterns.{matches_some};
-ghost use Rattle.aspath.specs.Cursors.{next_at};
+ghost use Rattle.aspath.specs.Patterns.{matches_here, matches_some};
+ghost use Rattle.aspath.specs.Cursors.{left};
 ghost use Rattle.communities.specs.Communities.{communities_of, holds_all};
 ghost use Rattle.attributes.specs.Attribute.{first_of, ask_path, ask_communities};
 ghost use Rattle.attributes.specs.Wire.{raws_of, codes};
@@ -19,17 +19,41 @@ ghost use Rattle.program.specs.Layout.{relation_is, is_start, is_end, fields_in,
 ghost use Rattle.program.specs.Checks.{last_variant, number_variant, is_item, items_stand};
 ghost use Rattle.truth.specs.Means.{if_any, some_prefix};
 ghost use Rattle.truth.specs.Records.{truth_at};
-ghost use Rattle.truth.specs.Matching.{peer_test, time_test, network_test, items_in, numbers_in, ends_at, matches_at, path_matches, path_test};
+ghost use Rattle.truth.specs.Matching.{peer_test, time_test, network_test, items_in, numbers_in, path_matches, path_test};
 ghost use Rattle.truth.specs.Matching.{communities_test};
 
-use aspath::{Cursor, Item, Next, Width};
-use attributes::Found;
+use aspath::{Item, Members, Width};
 use message::Parts;
-use network::{Network, Relation};
-use program::Fields;
+use network::{Network, Networks, Relation};
+use program::{Fields, Kind};
 
 // A second in microseconds, as times are compared.
 const SECOND: u64 = program::SECOND as u64;
+
+// The variants of a peer.
+const BY_AS: u32 = 1;
+
+const BY_ADDRESS: u32 = 2;
+
+const BY_BOTH: u32 = 3;
+
+// The variants of a time.
+const EQUAL: u32 = 0;
+
+const BELOW: u32 = 1;
+
+const AT_MOST: u32 = 2;
+
+const ABOVE: u32 = 3;
+
+const AT_LEAST: u32 = 4;
+
+// The sides of a network, in B.
+const EITHER: u32 = 0;
+
+const ANNOUNCED: u32 = 1;
+
+const WITHDRAWN: u32 = 2;
 
 // Whether an attribute of a section has a code, which is one byte.
 fn has_code(section: &[u8], code: u32) -> bool
@@ -38,29 +62,18 @@ fn has_code(section: &[u8], code: u32) -> bool
     if program::CODE_LIMIT <= code {
         return false;
     }
-    let found = attributes::find(section, code as u8);
-    let Found::At { start: _, len: _ } = found else {
-        return false;
-    };
-    true
+    attributes::find(section, code as u8).is_some()
 }
 
 fn same_peer(f: Fields, address: u32, number: u32) -> bool
     ensures { result ≡ peer_test f address number }
 {
-    if f.variant == 1 {
-        return number == f.b;
+    match f.variant {
+        BY_AS => number == f.b,
+        BY_ADDRESS => address == f.a,
+        BY_BOTH => address == f.a && number == f.b,
+        _ => false,
     }
-    if f.variant == 2 {
-        return address == f.a;
-    }
-    if f.variant != 3 {
-        return false;
-    }
-    if address != f.a {
-        return false;
-    }
-    number == f.b
 }
 
 // A time in microseconds.
@@ -76,26 +89,25 @@ fn in_time(f: Fields, seconds: u32) -> bool
 {
     let time = micros(seconds, 0);
     let operand = micros(f.a, f.b);
-    let comparison = f.variant;
-    match comparison {
-        0 => time == operand,
-        1 => time < operand,
-        2 => time <= operand,
-        3 => operand < time,
-        4 => operand <= time,
+    match f.variant {
+        EQUAL => time == operand,
+        BELOW => time < operand,
+        AT_MOST => time <= operand,
+        ABOVE => operand < time,
+        AT_LEAST => operand <= time,
         _ => false,
     }
 }
 
-fn relation_of(variant: u32) -> Relation
-    requires { variant ≤ 3 }
-    ensures { relation_is variant ≡ Some result }
+fn relation_of(variant: u32) -> Option<Relation>
+    ensures { result ≡ relation_is variant }
 {
     match variant {
-        0 => Relation::Exact,
-        1 => Relation::Supernet,
-        2 => Relation::Subnet,
-        _ => Relation::Related,
+        0 => Some(Relation::Exact),
+        1 => Some(Relation::Supernet),
+        2 => Some(Relation::Subnet),
+        3 => Some(Relation::Related),
+        _ => None,
     }
 }
 
@@ -103,47 +115,29 @@ fn relation_of(variant: u32) -> Relation
 fn some_prefix(section: &[u8], relation: Relation, operand: Network) -> bool
     ensures { result ≡ some_prefix relation (network_in operand) (networks_of section.now) }
 {
-    let mut at = 0;
-    while at < section.len() {
-        let size = network::prefix_size(section, at);
-        if size == 0 {
-            return false;
-        }
-        if network::related(relation, operand, network::network_at(section, at)) {
-            return true;
-        }
-        at += size;
-    }
-    false
+    Networks(section).any(|prefix| network::related(relation, operand, prefix))
 }
 
-// Whether some prefix of the operand's side does: B is 0 for either, 1 for announced, 2 for withdrawn.
+// Whether some prefix of the operand's side does.
 fn has_prefix(f: Fields, record: &[u8], parts: Parts) -> bool
     ensures { result ≡ network_test f (message_at «record».now parts) }
 {
-    if program::LAST_RELATION < f.variant {
+    let Some(relation) = relation_of(f.variant) else {
         return false;
-    }
-    let relation = relation_of(f.variant);
+    };
     let operand = Network {
         address: f.a,
         len: f.count,
     };
     let announced = message::part_of(record, parts.announced);
     let withdrawn = message::part_of(record, parts.withdrawn);
-    if f.b == 1 {
-        return some_prefix(announced, relation, operand);
+    match f.b {
+        EITHER => some_prefix(announced, relation, operand)
+            || some_prefix(withdrawn, relation, operand),
+        ANNOUNCED => some_prefix(announced, relation, operand),
+        WITHDRAWN => some_prefix(withdrawn, relation, operand),
+        _ => false,
     }
-    if f.b == 2 {
-        return some_prefix(withdrawn, relation, operand);
-    }
-    if f.b != 0 {
-        return false;
-    }
-    if some_prefix(announced, relation, operand) {
-        return true;
-    }
-    some_prefix(withdrawn, relation, operand)
 }
 
 // The item at a place where one stands.
@@ -152,86 +146,49 @@ fn item_at(records: &[u8], at: usize) -> Item
     ensures { decode (drop at records.now) ≡ Some (item result) }
 {
     let f = program::fields_at(records, at);
-    if f.variant == 0 {
-        return Item::Number(f.a);
-    }
-    if f.variant == 1 {
-        return Item::Other(f.a);
-    }
-    Item::Any
-}
-
-// Whether no member stands at a cursor.
-fn at_end(path: &[u8], c: Cursor, width: Width) -> bool
-    ensures { result ≡ ends_at (next_at (width_bytes width) path.now c) }
-{
-    let next = aspath::member_at(path, c, width);
-    match next {
-        Next::Member(_, _) => false,
-        Next::End => true,
+    match f.variant {
+        0 => Item::Number(f.a),
+        1 => Item::Other(f.a),
+        _ => Item::Any,
     }
 }
 
-// Whether the items match members from a cursor on, up to the last where end.
-fn matches_here(
-    records: &[u8],
-    count: usize,
-    end: bool,
-    path: &[u8],
-    from: Cursor,
-    width: Width,
-) -> bool
+// Whether the items match the members that are left, up to the last where end.
+fn matches_here(records: &[u8], count: u32, end: bool, from: Members) -> bool
     requires { items_stand last_variant count records.now ≡ true }
-    ensures { result ≡ matches_at end (items_in count records.now) (width_bytes width) path.now from }
+    ensures { result ≡ matches_here end (items_in count records.now) (left from.entry) }
 {
-    let mut c = from;
-    let mut at = 0;
-    let mut left = count;
-    while 0 < left {
-        let next = aspath::member_at(path, c, width);
-        let Next::Member(n, after) = next else {
+    let mut path = from;
+    for n in 0..count {
+        let Some(member) = path.next() else {
             return false;
         };
-        if !aspath::takes(item_at(records, at), n) {
+        if !aspath::takes(item_at(records, program::RECORD_SIZE * n as usize), member) {
             return false;
         }
-        c = after;
-        at += program::RECORD_SIZE;
-        left -= 1;
     }
-    if end {
-        return at_end(path, c, width);
+    !end || path.next().is_none()
+}
+
+// Whether they do from one of them on.
+fn matches_some(records: &[u8], count: u32, end: bool, path: Members) -> bool
+    requires { items_stand last_variant count records.now ≡ true }
+    ensures { result ≡ matches_some end (items_in count records.now) (left path.entry) }
+{
+    let mut from = path;
+    while !matches_here(records, count, end, from) {
+        if from.next().is_none() {
+            return false;
+        }
     }
     true
-}
-
-// Whether they do from some cursor on.
-fn matches_some(records: &[u8], count: usize, end: bool, path: &[u8], width: Width) -> bool
-    requires { items_stand last_variant count records.now ≡ true }
-    ensures { result ≡ matches_some end (items_in count records.now) (members_of (width_bytes width) path.now) }
-{
-    let mut c = Cursor { at: 0, left: 0 };
-    loop {
-        if matches_here(records, count, end, path, c, width) {
-            return true;
-        }
-        let next = aspath::member_at(path, c, width);
-        let Next::Member(_, after) = next else {
-            break;
-        };
-        c = after;
-    }
-    false
 }
 
 // Whether a variant has `^`.
 fn is_start(variant: u32) -> bool
     ensures { result ≡ is_start variant }
 {
-    if variant == 1 {
-        return true;
-    }
-    variant == 3
+    matches!(variant, 1 | 3)
 }
 
 // Whether a variant has `$`.
@@ -246,35 +203,31 @@ fn matches(f: Fields, behind: &[u8], path: &[u8], width: Width) -> bool
     requires { f.kind ≡ path_kind }
     ensures { result ≡ path_matches f behind.now (members_of (width_bytes width) path.now) }
 {
-    if program::LAST_ENDS < f.variant {
+    if program::LAST_ENDS < f.variant || !program::follows(f, behind) {
         return false;
     }
-    if !program::follows(f, behind) {
-        return false;
-    }
-    let count = program::following(f) as usize;
+    let members = aspath::members_of(path, width);
+    let count = program::following(f);
     let end = is_end(f.variant);
     if is_start(f.variant) {
-        let first = Cursor { at: 0, left: 0 };
-        return matches_here(behind, count, end, path, first, width);
+        return matches_here(behind, count, end, members);
     }
-    matches_some(behind, count, end, path, width)
+    matches_some(behind, count, end, members)
 }
 
 // Whether a test of the path is true of one.
 fn true_of_path(f: Fields, behind: &[u8], path: &[u8], width: Width) -> bool
     ensures { result ≡ path_test f behind.now (members_of (width_bytes width) path.now) }
 {
-    if f.kind == program::PATH {
-        return matches(f, behind, path, width);
+    let Some(kind) = program::kind_of(f.kind) else {
+        return false;
+    };
+    match kind {
+        Kind::Path => matches(f, behind, path, width),
+        Kind::Loops => aspath::loops(path, width),
+        Kind::Bogon => aspath::has_bogon(path, width),
+        _ => false,
     }
-    if f.kind == program::LOOPS {
-        return aspath::loops(path, width);
-    }
-    if f.kind == program::BOGON {
-        return aspath::has_bogon(path, width);
-    }
-    false
 }
 
 // Whether it is true of the AS_PATH of a section: without one it is false.
@@ -282,32 +235,25 @@ fn true_of_section(f: Fields, behind: &[u8], section: &[u8], width: Width) -> bo
     ensures { result ≡ if_any (first_of ask_path (attributes_of (width_bytes width) section.now))
         (λ segments. path_test f behind.now (members segments)) }
 {
-    let found = attributes::find(section, attributes::AS_PATH);
-    match found {
-        Found::At { start, len } => true_of_path(
-            f,
-            behind,
-            octets::part(section, start, len),
-            width,
-        ),
-        Found::Absent => false,
+    match attributes::find(section, attributes::AS_PATH) {
+        Some(body) => {
+            let path = octets::part(section, body.start, body.len);
+            true_of_path(f, behind, path, width)
+        }
+        None => false,
     }
 }
 
 // Whether each of so many numbers at the front of records stands in a body: the search ends at the first that is missing.
-fn holds_each(records: &[u8], count: usize, body: &[u8]) -> bool
+fn holds_each(records: &[u8], count: u32, body: &[u8]) -> bool
     requires { items_stand number_variant count records.now ≡ true }
     ensures { result ≡ holds_all (communities_of body.now) (numbers_in count records.now) }
 {
-    let mut at = 0;
-    let mut left = count;
-    while 0 < left {
-        let asked = program::fields_at(records, at);
+    for n in 0..count {
+        let asked = program::fields_at(records, program::RECORD_SIZE * n as usize);
         if !communities::has(body, asked.a) {
             return false;
         }
-        at += program::RECORD_SIZE;
-        left -= 1;
     }
     true
 }
@@ -318,15 +264,17 @@ fn has_communities(f: Fields, behind: &[u8], section: &[u8], width: Width) -> bo
     ensures { result ≡ if_any (first_of ask_communities (attributes_of (width_bytes width) section.now))
         (communities_test f behind.now) }
 {
-    let found = attributes::find(section, attributes::COMMUNITY);
-    let Found::At { start, len } = found else {
+    let Some(held) = attributes::find(section, attributes::COMMUNITY) else {
         return false;
     };
     if !program::follows(f, behind) {
         return false;
     }
-    let count = program::following(f) as usize;
-    holds_each(behind, count, octets::part(section, start, len))
+    holds_each(
+        behind,
+        program::following(f),
+        octets::part(section, held.start, held.len),
+    )
 }
 
 // Whether the test record at a place of a program is true of a message whose parts stand in a record. All tests but those of
@@ -335,29 +283,25 @@ pub fn holds(program: &[u8], at: usize, record: &[u8], parts: Parts) -> bool
     ensures { result ≡ truth_at (message_at «record».now parts) program.now at }
 {
     let f = program::fields_at(program, at);
-    if f.kind == program::TYPE {
-        return parts.code == f.a;
-    }
-    if f.kind == program::PEER {
-        return same_peer(f, parts.address, parts.peer);
-    }
-    if f.kind == program::TIME {
-        return in_time(f, parts.seconds);
+    let Some(kind) = program::kind_of(f.kind) else {
+        return false;
+    };
+    match kind {
+        Kind::MessageType => return parts.code == f.a,
+        Kind::Peer => return same_peer(f, parts.address, parts.peer),
+        Kind::Time => return in_time(f, parts.seconds),
+        _ => {}
     }
     if parts.code != message::UPDATE {
         return false;
     }
-    if f.kind == program::NETWORK {
-        return has_prefix(f, record, parts);
-    }
     let section = message::part_of(record, parts.attributes);
-    if f.kind == program::ATTRIBUTE {
-        return has_code(section, f.a);
-    }
     let behind = octets::rest(octets::rest(program, at), program::RECORD_SIZE);
     let width = parts.width;
-    if f.kind == program::COMMUNITIES {
-        return has_communities(f, behind, section, width);
+    match kind {
+        Kind::Network => has_prefix(f, record, parts),
+        Kind::Attribute => has_code(section, f.a),
+        Kind::Communities => has_communities(f, behind, section, width),
+        _ => true_of_section(f, behind, section, width),
     }
-    true_of_section(f, behind, section, width)
 }

@@ -6,6 +6,7 @@ ghost use Rattle.walk.specs.Steps.{step_of};
 
 use line::Wrote;
 use message::Decoded;
+use network::Networks;
 use walk::Step;
 
 // A run of three records: R, of 83 bytes; R32, of 84, which is R with a prefix of 32 bits; and R33, of 85, with one of 33.
@@ -63,55 +64,52 @@ fn tell(rt: &HostRuntime, record: &[u8], room: &mut [u8]) {
     }
 }
 
-// R with two bytes changed.
-fn tell_changed(rt: &HostRuntime, at: usize, b: u8, also: usize, c: u8) {
+// R with another byte at each of some places.
+fn tell_changed(rt: &HostRuntime, changes: &[(usize, u8)]) {
     let mut run = RUN;
-    octets::put(&mut run, at, b);
-    octets::put(&mut run, also, c);
+    for (at, b) in changes {
+        octets::put(&mut run, *at, *b);
+    }
     let mut room = [0u8; 256];
     tell(rt, octets::part(&run, 0, 83), &mut room);
 }
 
-fn tell_one(rt: &HostRuntime, at: usize, b: u8) {
-    tell_changed(rt, at, b, at, b);
-}
-
 // A prefix on its own.
 fn tell_network(rt: &HostRuntime, prefix: &[u8]) {
-    if network::prefix_size(prefix, 0) == 0 {
+    let Some(first) = Networks(prefix).next() else {
         say(rt, b"no prefix\n");
         return;
-    }
+    };
     let mut text = [0u8; 18];
-    let end = network::put_network(&mut text, 0, network::network_at(prefix, 0));
+    let end = network::put_network(&mut text, 0, first);
     say(rt, octets::part(&text, 0, end));
     say(rt, b"\n");
 }
 
 fn refusals(rt: &HostRuntime) {
     say(rt, b"11, a length that is not the rest: ");
-    tell_one(rt, 11, 0x48);
+    tell_changed(rt, &[(11, 0x48)]);
     say(rt, b"12, subtype 2: ");
-    tell_one(rt, 7, 2);
+    tell_changed(rt, &[(7, 2)]);
     say(rt, b"13, family 2: ");
-    tell_one(rt, 23, 2);
+    tell_changed(rt, &[(23, 2)]);
     say(rt, b"14, no marker: ");
-    tell_one(rt, 32, 0xFE);
+    tell_changed(rt, &[(32, 0xFE)]);
     say(rt, b"15, 200 withdrawn bytes: ");
-    tell_one(rt, 52, 200);
+    tell_changed(rt, &[(52, 200)]);
     say(rt, b"16, an attribute of 200 bytes: ");
-    tell_one(rt, 74, 200);
+    tell_changed(rt, &[(74, 200)]);
     say(rt, b"16, ORIGIN twice: ");
-    tell_one(rt, 73, 1);
+    tell_changed(rt, &[(73, 1)]);
     say(rt, b"17, ORIGIN 3: ");
-    tell_one(rt, 58, 3);
+    tell_changed(rt, &[(58, 3)]);
     say(
         rt,
         b"16 and 17 both, ORIGIN 3 and an attribute of 200 bytes: ",
     );
-    tell_changed(rt, 58, 3, 74, 200);
+    tell_changed(rt, &[(58, 3), (74, 200)]);
     say(rt, b"18, a prefix of 25 bits in three bytes: ");
-    tell_one(rt, 79, 25);
+    tell_changed(rt, &[(79, 25)]);
 }
 
 // What a reader answers at its third step over a run.
@@ -126,16 +124,15 @@ fn third_step(bytes: &[u8]) -> Step
 
 // A place or a length; none here needs more than 32 bits.
 fn say_size(rt: &HostRuntime, n: usize) {
-    if n < 4294967296 {
-        say_number(rt, n as u32);
+    if let Ok(n) = u32::try_from(n) {
+        say_number(rt, n);
     }
 }
 
 // The third step over the run's bytes up to a place.
 fn tell_third(rt: &HostRuntime, end: usize) {
     let run = RUN;
-    let step = third_step(octets::part(&run, 0, end));
-    match step {
+    match third_step(octets::part(&run, 0, end)) {
         Step::Record { start, len } => {
             say(rt, b"a record at ");
             say_size(rt, start);
@@ -169,7 +166,7 @@ fn third_steps(rt: &HostRuntime) {
 
 fn main(rt: HostRuntime) {
     say(&rt, b"R: ");
-    tell_one(&rt, 0, 0x60);
+    tell_changed(&rt, &[(0, 0x60)]);
     let run = RUN;
     say(&rt, b"R in 71 bytes: ");
     let mut room = [0u8; 71];
@@ -184,7 +181,7 @@ fn main(rt: HostRuntime) {
     say(&rt, b"21 0A 01 02 03 04: ");
     tell_network(&rt, b"\x21\x0A\x01\x02\x03\x04");
     say(&rt, b"R with 17 0A 01 03: ");
-    tell_changed(&rt, 79, 0x17, 82, 0x03);
+    tell_changed(&rt, &[(79, 0x17), (82, 0x03)]);
     let mut lines = [0u8; 256];
     say(&rt, b"R with 20 0A 01 02 03: ");
     tell(&rt, octets::part(&run, 83, 84), &mut lines);

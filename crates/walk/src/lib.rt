@@ -5,7 +5,7 @@ ghost use Rattle.std.specs.Prelude.{◌≡◌, ◌<◌, ◌^◌};
 ghost use Rattle.walk.specs.Steps.{step_at, record_of, place_after};
 ghost use Rattle.walk.specs.Readers.{fresh, step_on, moved};
 
-#[derive(Clone, Copy)]
+#[derive(Clone, Copy, Debug, PartialEq, Eq)]
 pub enum Step {
     // A whole record: where it starts, and its bytes with its header.
     Record { start: usize, len: usize },
@@ -16,13 +16,14 @@ pub enum Step {
 }
 
 // A reader over a run: the bytes, and the place of the next step.
-#[derive(Clone, Copy)]
+#[derive(Clone, Copy, Debug, PartialEq, Eq)]
 pub struct Reader<'a> {
     pub bytes: &'a [u8],
     pub at: usize,
 }
 
 // What stands at a place; past the end nothing is left.
+#[tactic(auto, unfolding(crate::specs::Steps::step_at))]
 pub fn step_at(bytes: &[u8], at: usize) -> Step
     ensures { result ≡ step_at bytes.now at }
 {
@@ -49,8 +50,7 @@ pub fn record_of(bytes: &[u8], step: Step) -> &[u8]
 {
     match step {
         Step::Record { start, len } => octets::part(bytes, start, len),
-        Step::Done => &bytes[..0],
-        Step::Cut { left: _ } => &bytes[..0],
+        Step::Done | Step::Cut { .. } => &[],
     }
 }
 
@@ -61,8 +61,7 @@ fn place_after(step: Step, at: usize) -> usize
 {
     match step {
         Step::Record { start, len } => start + len,
-        Step::Done => at,
-        Step::Cut { left: _ } => at,
+        Step::Done | Step::Cut { .. } => at,
     }
 }
 

@@ -1,32 +1,19 @@
--- `aspath::has_bogon` meets its contract.
--- The loop's invariant: the path has a bogon just where its members from the cursor on have one. Assumes nothing.
-use native.Mathlib.Omega.{arith}
-use mathlib.Core.Path.{sym, ap, ◌∙◌}
-use lib.ListN.{length}
-use Rattle.aspath.specs.Bogons.{some_bogon}
-use Rattle.aspath.specs.Cursors.{remaining}
-use Rattle.aspath.proofs.Cursors.{member_view, end_view, whole_path}
-use Rattle.aspath.proofs.Ranges.{bogon_none, bogon_here, bogon_later}
+-- `aspath::has_bogon` meets its contract: the search goes through the members. Assumes nothing.
+use Rattle.std.proofs.Common.{rules, tests}
+use Rattle.std.proofs.lemmas.Iterator.Consumers.{YieldsList-from_first}
+use Rattle.std.proofs.lemmas.Iterator.Search.{any_from_yields_List}
+use mathlib.Core.Path.{◌∙◌}
+use Rattle.octets.proofs.Some.{any_passes}
+use Rattle.aspath.specs.Members.{Member, member_of, some_held}
+use Rattle.aspath.specs.Wire.{width_bytes, members_of}
+use Rattle.aspath.specs.Cursors.{left}
+use Rattle.aspath.specs.Bogons.{is_bogon, some_bogon}
 use Rattle.aspath.proofs.has_bogon.Goals as goal
 
-pub loop-n-init : goal.loop-n-init
-loop-n-init c = ap some_bogon (whole_path c.width_bytes-w.result c.args.s.now)
-
-pub returns-then-bogon : goal.returns-then-bogon
-returns-then-bogon c = let here = member_view _ _ _ (sym c.next_member-here.ensures ∙ c.in-Member.is) in
-    let e = bogon_here _ (remaining c.width_bytes-w.result c.args.s.now c.in-Member.after)
-    (sym c.bogon.ensures ∙ c.if-bogon.true) in
-    rw (← c.width_bytes-w.ensures.0) (sym (sym c.loop-n.invariant ∙ ap some_bogon here ∙ e))
-
-pub loop-n-smaller : goal.loop-n-smaller
-loop-n-smaller c = omega (arith, ap length (member_view _ _ _ (sym c.next_member-here.ensures ∙ c.in-Member.is)))
-
-pub loop-n-preserved : goal.loop-n-preserved
-loop-n-preserved c = let here = member_view _ _ _ (sym c.next_member-here.ensures ∙ c.in-Member.is) in
-    let e = bogon_later _ (remaining c.width_bytes-w.result c.args.s.now c.in-Member.after)
-    (sym c.bogon.ensures ∙ c.if-bogon.false) in
-    sym e ∙ ap some_bogon (sym here) ∙ c.loop-n.invariant
-
 pub returns : goal.returns
-returns c = let e = end_view _ _ c.loop-n.c (sym c.next_member-here.ensures ∙ c.in_default.is) in
-    rw (← c.width_bytes-w.ensures.0) (sym (sym c.loop-n.invariant ∙ ap some_bogon e ∙ bogon_none))
+unfolding some_bogon some_held
+returns c =
+    let path = members_of (width_bytes c.args.width) c.args.s.now in
+    any_from_yields_List (λ (m : Member). some_held m is_bogon) c.any.new.self _ _ c.any.ensures.ran (YieldsList-from_first member_of left path c.members_of.ensures)
+    (λ x b q k. search (rules, tests))
+    ∙ any_passes (λ (m : Member). some_held m is_bogon) path

@@ -1,21 +1,18 @@
 -- `aspath::loops` meets its contract.
--- The invariants: a loop of the path is one of its members from p on, and a return of n is one from q on. Assumes nothing.
+-- The invariants: a loop of the path is one of the members left, and a return of n is one of those that the inner loop has left. Assumes nothing.
 use mathlib.Core.Path.{◌≡◌}
 use mathlib.Core.Bool.{false}
 use lib.ListN.{length}
-use Rattle.aspath.specs.Wire.{members_of}
+use Rattle.aspath.specs.Wire.{width_bytes, members_of}
 use Rattle.aspath.specs.Loops.{returns_in, has_loop}
-use Rattle.aspath.specs.Cursors.{remaining}
+use Rattle.aspath.specs.Cursors.{left}
 use Rattle.aspath.proofs.loops.Given as goal
 
 abbrev pub invariant-loop-m : goal.invariant-loop-m
-invariant-loop-m l = returns_in l.other l.n (remaining l.w l.s l.q) ≡ returns_in false l.n (remaining l.w l.s l.after)
-
-abbrev pub decreases-loop-m : goal.decreases-loop-m
-decreases-loop-m l = length (remaining l.w l.s l.q)
+invariant-loop-m l = returns_in l.other l.n (left l.m-iterator) ≡ returns_in false l.n (left l.path)
 
 abbrev pub invariant-search : goal.invariant-search
-invariant-search l = has_loop (remaining l.w l.s l.p) ≡ has_loop (members_of l.w l.s)
+invariant-search l = has_loop (left l.path) ≡ has_loop (members_of (width_bytes l.fn.width) l.s)
 
 abbrev pub decreases-search : goal.decreases-search
-decreases-search l = length (remaining l.w l.s l.p)
+decreases-search l = length (left l.path)

@@ -3,11 +3,11 @@ use Prim.Native.Nat.{◌-◌, ◌≤◌}
 use mathlib.Core.Path.{◌≡◌}
 use lib.ListN.{length, drop}
 use Rattle.octets.specs.Rows.{whole}
-use Rattle.aspath.specs.Wire.{segment_size}
+use Rattle.aspath.specs.Wire.{width_bytes, segment_size}
 use Rattle.aspath.proofs.well_formed.Given as goal
 
-abbrev pub invariant-loop-at : goal.invariant-loop-at
-invariant-loop-at l = (l.at ≤ length l.s) × (whole (segment_size l.w) (drop l.at l.s) ≡ whole (segment_size l.w) l.s)
+abbrev pub invariant-loop-size : goal.invariant-loop-size
+invariant-loop-size l = let size = segment_size (width_bytes l.width) in (l.at ≤ length l.s) × (whole size (drop l.at l.s) ≡ whole size l.s)
 
-abbrev pub decreases-loop-at : goal.decreases-loop-at
-decreases-loop-at l = length l.s - l.at
+abbrev pub decreases-loop-size : goal.decreases-loop-size
+decreases-loop-size l = length l.s - l.at

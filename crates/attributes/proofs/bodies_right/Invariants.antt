@@ -7,8 +7,8 @@ use Rattle.attributes.specs.Wire.{raws_of}
 use Rattle.attributes.specs.Bodies.{all_right}
 use Rattle.attributes.proofs.bodies_right.Given as goal
 
-abbrev pub invariant-loop-at : goal.invariant-loop-at
-invariant-loop-at l = (l.at ≤ length l.s) × (all_right (width_bytes l.width) (raws_of (drop l.at l.s)) ≡ all_right (width_bytes l.width) (raws_of l.s))
+abbrev pub invariant-loop-size : goal.invariant-loop-size
+invariant-loop-size l = (l.at ≤ length l.s) × (all_right (width_bytes l.width) (raws_of (drop l.at l.s)) ≡ all_right (width_bytes l.width) (raws_of l.s))
 
-abbrev pub decreases-loop-at : goal.decreases-loop-at
-decreases-loop-at l = length l.s - l.at
+abbrev pub decreases-loop-size : goal.decreases-loop-size
+decreases-loop-size l = length l.s - l.at

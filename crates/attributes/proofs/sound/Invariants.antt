@@ -7,8 +7,8 @@ use Rattle.attributes.proofs.Marks.{marks}
 use Rattle.attributes.proofs.Walks.{sound_with}
 use Rattle.attributes.proofs.sound.Given as goal
 
-abbrev pub invariant-loop-at : goal.invariant-loop-at
-invariant-loop-at l = (l.at ≤ length l.s) × (length l.seen ≡ 4) × (sound_with (marks l.seen) (drop l.at l.s) ≡ is_sound l.s)
+abbrev pub invariant-loop-size : goal.invariant-loop-size
+invariant-loop-size l = (l.at ≤ length l.s) × (length l.seen ≡ 4) × (sound_with (marks l.seen) (drop l.at l.s) ≡ is_sound l.s)
 
-abbrev pub decreases-loop-at : goal.decreases-loop-at
-decreases-loop-at l = length l.s - l.at
+abbrev pub decreases-loop-size : goal.decreases-loop-size
+decreases-loop-size l = length l.s - l.at

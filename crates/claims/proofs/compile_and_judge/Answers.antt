@@ -3,15 +3,15 @@ use Rattle.claims.specs.Answered.{counting_of}
 use Rattle.claims.proofs.Answers.{promised_judged, promised_refused}
 use Rattle.claims.proofs.compile_and_judge.Goals as goal
 
-pub returns-in-Program : goal.returns-in-Program
-returns-in-Program c = let a = c.args in
-    let e = c.compile-compiled.ensures in
+pub returns-in-Ok : goal.returns-in-Ok
+returns-in-Ok c = let a = c.args in
+    let e = c.compile.ensures in
     let j = c.judge_in-counted in
-    promised_judged a.text.now a.program.now a.bytes.now a.lines.now (counting_of a.counting) _ _ e c.in-Program.size c.in-Program.is
+    promised_judged a.text.now a.program.now a.bytes.now a.lines.now (counting_of a.counting) _ _ e c.in-Ok.size c.in-Ok.is
     j.result.judged j.new.lines (counting_of j.result.counting)
     (rw c.part.ensures at j.ensures)
 
-pub returns-in-Refused : goal.returns-in-Refused
-returns-in-Refused c = let a = c.args in
-    let e = c.compile-compiled.ensures in
-    promised_refused a.text.now a.program.now a.bytes.now a.lines.now (counting_of a.counting) _ _ e c.in-Refused.refusal c.in-Refused.place c.in-Refused.is
+pub returns-in-Err : goal.returns-in-Err
+returns-in-Err c = let a = c.args in
+    let e = c.compile.ensures in
+    promised_refused a.text.now a.program.now a.bytes.now a.lines.now (counting_of a.counting) _ _ e c.in-Err.refused c.in-Err.is

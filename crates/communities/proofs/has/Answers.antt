@@ -1,26 +1,17 @@
--- `communities::has` meets its contract. The loop's invariant: the communities from `at` on hold it exactly where all do. Assumes nothing.
-use native.Mathlib.Omega.{arith}
-use borrow.Author.Tests.{eq-eqb, ne_eqb}
-use mathlib.Core.Path.{refl, sym, ◌∙◌}
-use Rattle.communities.proofs.Holding.{held_next, held_end}
+-- `communities::has` meets its contract: the search of the iterator over the body's communities. Assumes nothing.
+use mathlib.Core.Path.{refl, ◌∙◌}
+use Rattle.std.proofs.Common.{ℕ, rules, tests}
+use Rattle.std.proofs.lemmas.Iterator.Consumers.{YieldsList-from_first}
+use Rattle.std.proofs.lemmas.Iterator.Search.{any_from_yields_List}
+use lib.Dec.{eqb}
+use Rattle.octets.proofs.Some.{any_passes}
+use Rattle.communities.specs.Communities.{communities_of, is_held}
+use Rattle.communities.specs.Left.{communities_left}
 use Rattle.communities.proofs.has.Goals as goal
 
-pub loop-at-init : goal.loop-at-init
-loop-at-init c = (omega arith, refl)
-
-pub returns-then-number-community : goal.returns-then-number-community
-returns-then-number-community c = let a = c.args in
-    let l = c.loop-at in
-    let e = held_next a.body.now l.at a.community (omega arith) in
-    sym (sym l.invariant.1 ∙ e ∙ simp (eq-eqb _ _ (sym c.number.ensures ∙ c.if-number-community.true)))
-
-pub loop-at-preserved : goal.loop-at-preserved
-loop-at-preserved c = let a = c.args in
-    let l = c.loop-at in
-    let e = held_next a.body.now l.at a.community (omega arith) in
-    (omega arith, sym (simp (ne_eqb _ _ (λ z. c.if-number-community.false (c.number.ensures ∙ z))) at e) ∙ l.invariant.1)
-
 pub returns : goal.returns
+unfolding is_held
 returns c = let a = c.args in
-    let l = c.loop-at in
-    sym (sym l.invariant.1 ∙ held_end a.body.now l.at a.community (omega arith))
+    any_from_yields_List (λ h. eqb h a.community) c.any.new.self _ _ c.any.ensures.ran
+    (YieldsList-from_first (λ h. h) communities_left _ refl) (λ x b q k. search (rules, tests))
+    ∙ any_passes (λ (h : ℕ). eqb h a.community) (communities_of a.body.now)

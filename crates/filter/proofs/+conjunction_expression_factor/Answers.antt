@@ -1,252 +1,196 @@
 -- The one proof of the cycle {conjunction, expression, factor}: each part is read as the reader reads it. The measure is 3 for each token left, and the part's rank. Assumes nothing.
+use Prim.Native.Nat.{ℕ}
 use native.Mathlib.Omega.{arith}
 use borrow.Author.Rules.{rules}
-use mathlib.Core.Path.{refl, sym, ap, ◌∙◌}
+use mathlib.Core.Path.{◌≡◌, sym, ap, ◌∙◌}
+use Rattle.std.specs.Prelude.{Some, Err}
 use Rattle.program.specs.Readings.{and as and·op, or as or·op}
 use Rattle.token.proofs.Nexts.{sort_token}
 use Rattle.filter.specs.Parsing.{role_said}
+use Rattle.filter.specs.declared.Role.TheVariants.{And, Or}
 use Rattle.filter.specs.Answers.{a_group, a_bang}
-use Rattle.filter.proofs.ReadyTokens.{no_level, not_joint, ready_small, next_ready, next_fewer}
-use Rattle.filter.proofs.Parts.{read_ready, says_stopped}
-use Rattle.filter.proofs.Sides.{sofar_first, sofar_length, sofar_last, sofar_more, first_stops, side_ready, side_fewer, more_stops}
-use Rattle.filter.proofs.Factors.{opens_deep, opened_stops, negation, group, group_stops}
+use Rattle.filter.proofs.ReadyTokens.{not_joint, ready_small, next_ready, next_fewer}
+use Rattle.filter.proofs.Parts.{read_ready}
+use Rattle.filter.proofs.Sides.{sofar_first, sofar_last, sofar_more, first_stops, side_ready, side_fewer, more_stops}
+use Rattle.filter.proofs.Factors.{too_deep, opened_stops, negation, group, group_stops}
 use Rattle.filter.proofs.+conjunction_expression_factor.Goals as goal
 
-pub conjunction-factor-r-requires : goal.conjunction-factor-r-requires
-conjunction-factor-r-requires t c = (omega arith, c.requires)
+pub conjunction-returns-in_err-part : goal.conjunction-returns-in_err-part
+conjunction-returns-in_err-part t c =
+    let handed : c.from_residual.result ≡ Err c.in_err-part.field-0.0 = search rules in
+    rw handed (first_stops and·op c.in_err-part.was c.factor.ensures)
 
-pub conjunction-shape_of-out-in_default : goal.conjunction-shape_of-out-in_default
-conjunction-shape_of-out-in_default t c = c.factor-r.auto.out
+pub conjunction-overflow_add-pass : goal.conjunction-overflow_add-pass
+conjunction-overflow_add-pass t c =
+    let g = c.loop-pass.invariant _ _ (sofar_first and·op c.requires.1 c.factor.ensures c.in_ok-part.was) in
+    omega (arith, ready_small g.ready)
 
-pub conjunction-returns-in_default : goal.conjunction-returns-in_default
-conjunction-returns-in_default t c = first_stops and·op c.in_default.is c.factor-r.ensures
-
-pub conjunction-loop-out-init : goal.conjunction-loop-out-init
-conjunction-loop-out-init t c = λ v old g. g
-
-pub conjunction-shape_of-out-in_default-role : goal.conjunction-shape_of-out-in_default-role
-conjunction-shape_of-out-in_default-role t c =
-    let g = c.loop-out.invariant _ _ (sofar_first and·op c.requires.1 c.factor-r.ensures c.in-Upto.is) in
-    sofar_length g
-
-pub conjunction-returns-in_default-role : goal.conjunction-returns-in_default-role
-conjunction-returns-in_default-role t c =
-    let g = c.loop-out.invariant _ _ (sofar_first and·op c.requires.1 c.factor-r.ensures c.in-Upto.is) in
-    sofar_last and·op g (not_joint and·op c.role_of-role.result c.role_of-role.ensures (search rules))
-
-pub conjunction-overflow_add-m : goal.conjunction-overflow_add-m
-conjunction-overflow_add-m t c =
-    let g = c.loop-out.invariant _ _ (sofar_first and·op c.requires.1 c.factor-r.ensures c.in-Upto.is) in
-    let small = ready_small g.ready in
-    omega arith
-
-pub conjunction-factor-q-requires : goal.conjunction-factor-q-requires
-conjunction-factor-q-requires t c = let g = c.loop-out.invariant _ _ (sofar_first and·op c.requires.1 c.factor-r.ensures c.in-Upto.is) in
-    let role = (sym c.role_of-role.ensures ∙ ap role_said c.in-And.is) in
+pub conjunction-factor-requires-in-Some-And : goal.conjunction-factor-requires-in-Some-And
+conjunction-factor-requires-in-Some-And t c =
+    let g = c.loop-pass.invariant _ _ (sofar_first and·op c.requires.1 c.factor.ensures c.in_ok-part.was) in
+    let role = sym c.role_of.ensures ∙ ap role_said (c.in-Some-And.is ∙ ap (λ r. Some r) c.in-Some-And.field-0-is) in
     (omega (arith, c.requires, side_fewer and·op g role c.next.ensures, g.read.fewer), (c.requires.0, side_ready and·op g role c.next.ensures))
 
-pub conjunction-shape_of-out-in_default-q : goal.conjunction-shape_of-out-in_default-q
-conjunction-shape_of-out-in_default-q t c =
-    let g = c.loop-out.invariant _ _ (sofar_first and·op c.requires.1 c.factor-r.ensures c.in-Upto.is) in
-    c.factor-q.auto.out ∙ sofar_length g
+pub conjunction-returns-in_err-part-2 : goal.conjunction-returns-in_err-part-2
+conjunction-returns-in_err-part-2 t c =
+    let g = c.loop-pass.invariant _ _ (sofar_first and·op c.requires.1 c.factor.ensures c.in_ok-part.was) in
+    let role = sym c.role_of.ensures ∙ ap role_said (c.in-Some-And.is ∙ ap (λ r. Some r) c.in-Some-And.field-0-is) in
+    let handed : c.from_residual-in_err-part-2.result ≡ Err c.in_err-part-2.field-0.0 = search rules in
+    rw handed (more_stops and·op g role c.next.ensures c.in_err-part-2.was c.factor-in-Some-And.ensures)
 
-pub conjunction-returns-in_default-q : goal.conjunction-returns-in_default-q
-conjunction-returns-in_default-q t c =
-    let g = c.loop-out.invariant _ _ (sofar_first and·op c.requires.1 c.factor-r.ensures c.in-Upto.is) in
-    let role = sym c.role_of-role.ensures ∙ ap role_said c.in-And.is in
-    more_stops and·op g role c.next.ensures c.in_default-q.is c.factor-q.ensures
+pub conjunction-overflow_sub-part : goal.conjunction-overflow_sub-part
+conjunction-overflow_sub-part t c = omega (arith, (c.factor-in-Some-And.ensures.upto _ c.in_ok-part-2.was).count)
 
-pub conjunction-overflow_mul-m : goal.conjunction-overflow_mul-m
-conjunction-overflow_mul-m t c =
-    let g = c.loop-out.invariant _ _ (sofar_first and·op c.requires.1 c.factor-r.ensures c.in-Upto.is) in
-    let small = ready_small g.ready in
-    omega arith
+pub conjunction-overflow_sub-part-in-Some-And : goal.conjunction-overflow_sub-part-in-Some-And
+conjunction-overflow_sub-part-in-Some-And t c = omega (arith, (c.factor-in-Some-And.ensures.upto _ c.in_ok-part-2.was).count)
 
-pub conjunction-overflow_sub-m1 : goal.conjunction-overflow_sub-m1
-conjunction-overflow_sub-m1 t c = omega (arith, (c.factor-q.ensures.upto _ _ c.in-Upto-q.is).count)
+pub conjunction-put_plain-requires : goal.conjunction-put_plain-requires
+conjunction-put_plain-requires t c =
+    let g = c.loop-pass.invariant _ _ (sofar_first and·op c.requires.1 c.factor.ensures c.in_ok-part.was) in
+    let role = sym c.role_of.ensures ∙ ap role_said (c.in-Some-And.is ∙ ap (λ r. Some r) c.in-Some-And.field-0-is) in
+    let small = ready_small (read_ready (side_ready and·op g role c.next.ensures) (c.factor-in-Some-And.ensures.upto _ c.in_ok-part-2.was)) in
+    (ready_small g.ready, omega arith)
 
-pub conjunction-overflow_sub-m1-in-loop-out : goal.conjunction-overflow_sub-m1-in-loop-out
-conjunction-overflow_sub-m1-in-loop-out t c = omega (arith, (c.factor-q.ensures.upto _ _ c.in-Upto-q.is).count)
+pub conjunction-loop-pass-smaller : goal.conjunction-loop-pass-smaller
+conjunction-loop-pass-smaller t c =
+    let g = c.loop-pass.invariant _ _ (sofar_first and·op c.requires.1 c.factor.ensures c.in_ok-part.was) in
+    let role = sym c.role_of.ensures ∙ ap role_said (c.in-Some-And.is ∙ ap (λ r. Some r) c.in-Some-And.field-0-is) in
+    omega (arith, side_fewer and·op g role c.next.ensures, (c.factor-in-Some-And.ensures.upto _ c.in_ok-part-2.was).fewer)
 
-pub conjunction-overflow_cast-m1 : goal.conjunction-overflow_cast-m1
-conjunction-overflow_cast-m1 t c =
-    let g = c.loop-out.invariant _ _ (sofar_first and·op c.requires.1 c.factor-r.ensures c.in-Upto.is) in
-    let role = sym c.role_of-role.ensures ∙ ap role_said c.in-And.is in
-    let small = ready_small (read_ready (side_ready and·op g role c.next.ensures) (c.factor-q.ensures.upto _ _ c.in-Upto-q.is)) in
-    omega arith
+pub conjunction-loop-pass-preserved : goal.conjunction-loop-pass-preserved
+conjunction-loop-pass-preserved t c = λ v old g.
+    let role = sym c.role_of.ensures ∙ ap role_said (c.in-Some-And.is ∙ ap (λ r. Some r) c.in-Some-And.field-0-is) in
+    sofar_more and·op (c.loop-pass.invariant v old g) role c.next.ensures c.factor-in-Some-And.ensures c.in_ok-part-2.was c.put_plain.ensures
 
-pub conjunction-loop-out-smaller : goal.conjunction-loop-out-smaller
-conjunction-loop-out-smaller t c =
-    let g = c.loop-out.invariant _ _ (sofar_first and·op c.requires.1 c.factor-r.ensures c.in-Upto.is) in
-    let role = sym c.role_of-role.ensures ∙ ap role_said c.in-And.is in
-    omega (arith, side_fewer and·op g role c.next.ensures, (c.factor-q.ensures.upto _ _ c.in-Upto-q.is).fewer)
+pub conjunction-returns-in_default : goal.conjunction-returns-in_default
+conjunction-returns-in_default t c =
+    let g = c.loop-pass.invariant _ _ (sofar_first and·op c.requires.1 c.factor.ensures c.in_ok-part.was) in
+    let other : c.in_default.field-0 ≡ And → ⊥ = search rules in
+    sofar_last and·op g (not_joint and·op c.role_of.result c.role_of.ensures (λ e. other (let x : c.in_default.field-0 ≡ And = cc (e, c.in_default.is) in x)))
 
-pub conjunction-loop-out-preserved : goal.conjunction-loop-out-preserved
-conjunction-loop-out-preserved t c = λ v old g.
-    sofar_more and·op (c.loop-out.invariant v old g) (sym c.role_of-role.ensures ∙ ap role_said c.in-And.is) c.next.ensures
-    c.factor-q.ensures c.in-Upto-q.is c.plain.ensures c.put_record.ensures
+pub conjunction-returns-in_default-2 : goal.conjunction-returns-in_default-2
+conjunction-returns-in_default-2 t c =
+    let g = c.loop-pass.invariant _ _ (sofar_first and·op c.requires.1 c.factor.ensures c.in_ok-part.was) in
+    sofar_last and·op g (not_joint and·op c.role_of.result c.role_of.ensures (λ e. let z : ◌≡◌ {A = ℕ} 0 1 = cc (e, c.in_default.is) in omega arith))
 
-pub expression-conjunction-r-requires : goal.expression-conjunction-r-requires
-expression-conjunction-r-requires t c = (omega arith, c.requires)
+pub expression-returns-in_err-part : goal.expression-returns-in_err-part
+expression-returns-in_err-part t c =
+    let handed : c.from_residual.result ≡ Err c.in_err-part.field-0.0 = search rules in
+    rw handed (first_stops or·op c.in_err-part.was c.conjunction.ensures)
 
-pub expression-shape_of-out-in_default : goal.expression-shape_of-out-in_default
-expression-shape_of-out-in_default t c = c.conjunction-r.auto.out
+pub expression-overflow_add-pass : goal.expression-overflow_add-pass
+expression-overflow_add-pass t c =
+    let g = c.loop-pass.invariant _ _ (sofar_first or·op c.requires.1 c.conjunction.ensures c.in_ok-part.was) in
+    omega (arith, ready_small g.ready)
 
-pub expression-returns-in_default : goal.expression-returns-in_default
-expression-returns-in_default t c = first_stops or·op c.in_default.is c.conjunction-r.ensures
-
-pub expression-loop-out-init : goal.expression-loop-out-init
-expression-loop-out-init t c = λ v old g. g
-
-pub expression-shape_of-out-in_default-role : goal.expression-shape_of-out-in_default-role
-expression-shape_of-out-in_default-role t c =
-    let g = c.loop-out.invariant _ _ (sofar_first or·op c.requires.1 c.conjunction-r.ensures c.in-Upto.is) in
-    sofar_length g
-
-pub expression-returns-in_default-role : goal.expression-returns-in_default-role
-expression-returns-in_default-role t c =
-    let g = c.loop-out.invariant _ _ (sofar_first or·op c.requires.1 c.conjunction-r.ensures c.in-Upto.is) in
-    sofar_last or·op g (not_joint or·op c.role_of-role.result c.role_of-role.ensures (search rules))
-
-pub expression-overflow_add-m : goal.expression-overflow_add-m
-expression-overflow_add-m t c =
-    let g = c.loop-out.invariant _ _ (sofar_first or·op c.requires.1 c.conjunction-r.ensures c.in-Upto.is) in
-    let small = ready_small g.ready in
-    omega arith
-
-pub expression-conjunction-q-requires : goal.expression-conjunction-q-requires
-expression-conjunction-q-requires t c = let g = c.loop-out.invariant _ _ (sofar_first or·op c.requires.1 c.conjunction-r.ensures c.in-Upto.is) in
-    let role = (sym c.role_of-role.ensures ∙ ap role_said c.in-Or.is) in
+pub expression-conjunction-requires-in-Some-Or : goal.expression-conjunction-requires-in-Some-Or
+expression-conjunction-requires-in-Some-Or t c =
+    let g = c.loop-pass.invariant _ _ (sofar_first or·op c.requires.1 c.conjunction.ensures c.in_ok-part.was) in
+    let role = sym c.role_of.ensures ∙ ap role_said (c.in-Some-Or.is ∙ ap (λ r. Some r) c.in-Some-Or.field-0-is) in
     (omega (arith, c.requires, side_fewer or·op g role c.next.ensures, g.read.fewer), (c.requires.0, side_ready or·op g role c.next.ensures))
 
-pub expression-shape_of-out-in_default-q : goal.expression-shape_of-out-in_default-q
-expression-shape_of-out-in_default-q t c =
-    let g = c.loop-out.invariant _ _ (sofar_first or·op c.requires.1 c.conjunction-r.ensures c.in-Upto.is) in
-    c.conjunction-q.auto.out ∙ sofar_length g
+pub expression-returns-in_err-part-2 : goal.expression-returns-in_err-part-2
+expression-returns-in_err-part-2 t c =
+    let g = c.loop-pass.invariant _ _ (sofar_first or·op c.requires.1 c.conjunction.ensures c.in_ok-part.was) in
+    let role = sym c.role_of.ensures ∙ ap role_said (c.in-Some-Or.is ∙ ap (λ r. Some r) c.in-Some-Or.field-0-is) in
+    let handed : c.from_residual-in_err-part-2.result ≡ Err c.in_err-part-2.field-0.0 = search rules in
+    rw handed (more_stops or·op g role c.next.ensures c.in_err-part-2.was c.conjunction-in-Some-Or.ensures)
 
-pub expression-returns-in_default-q : goal.expression-returns-in_default-q
-expression-returns-in_default-q t c =
-    let g = c.loop-out.invariant _ _ (sofar_first or·op c.requires.1 c.conjunction-r.ensures c.in-Upto.is) in
-    let role = sym c.role_of-role.ensures ∙ ap role_said c.in-Or.is in
-    more_stops or·op g role c.next.ensures c.in_default-q.is c.conjunction-q.ensures
+pub expression-overflow_sub-part : goal.expression-overflow_sub-part
+expression-overflow_sub-part t c = omega (arith, (c.conjunction-in-Some-Or.ensures.upto _ c.in_ok-part-2.was).count)
 
-pub expression-overflow_mul-m : goal.expression-overflow_mul-m
-expression-overflow_mul-m t c =
-    let g = c.loop-out.invariant _ _ (sofar_first or·op c.requires.1 c.conjunction-r.ensures c.in-Upto.is) in
-    let small = ready_small g.ready in
-    omega arith
+pub expression-overflow_sub-part-in-Some-Or : goal.expression-overflow_sub-part-in-Some-Or
+expression-overflow_sub-part-in-Some-Or t c = omega (arith, (c.conjunction-in-Some-Or.ensures.upto _ c.in_ok-part-2.was).count)
 
-pub expression-overflow_sub-m1 : goal.expression-overflow_sub-m1
-expression-overflow_sub-m1 t c = omega (arith, (c.conjunction-q.ensures.upto _ _ c.in-Upto-q.is).count)
+pub expression-put_plain-requires : goal.expression-put_plain-requires
+expression-put_plain-requires t c =
+    let g = c.loop-pass.invariant _ _ (sofar_first or·op c.requires.1 c.conjunction.ensures c.in_ok-part.was) in
+    let role = sym c.role_of.ensures ∙ ap role_said (c.in-Some-Or.is ∙ ap (λ r. Some r) c.in-Some-Or.field-0-is) in
+    let small = ready_small (read_ready (side_ready or·op g role c.next.ensures) (c.conjunction-in-Some-Or.ensures.upto _ c.in_ok-part-2.was)) in
+    (ready_small g.ready, omega arith)
 
-pub expression-overflow_sub-m1-in-loop-out : goal.expression-overflow_sub-m1-in-loop-out
-expression-overflow_sub-m1-in-loop-out t c = omega (arith, (c.conjunction-q.ensures.upto _ _ c.in-Upto-q.is).count)
+pub expression-loop-pass-smaller : goal.expression-loop-pass-smaller
+expression-loop-pass-smaller t c =
+    let g = c.loop-pass.invariant _ _ (sofar_first or·op c.requires.1 c.conjunction.ensures c.in_ok-part.was) in
+    let role = sym c.role_of.ensures ∙ ap role_said (c.in-Some-Or.is ∙ ap (λ r. Some r) c.in-Some-Or.field-0-is) in
+    omega (arith, side_fewer or·op g role c.next.ensures, (c.conjunction-in-Some-Or.ensures.upto _ c.in_ok-part-2.was).fewer)
 
-pub expression-overflow_cast-m1 : goal.expression-overflow_cast-m1
-expression-overflow_cast-m1 t c =
-    let g = c.loop-out.invariant _ _ (sofar_first or·op c.requires.1 c.conjunction-r.ensures c.in-Upto.is) in
-    let role = sym c.role_of-role.ensures ∙ ap role_said c.in-Or.is in
-    let small = ready_small (read_ready (side_ready or·op g role c.next.ensures) (c.conjunction-q.ensures.upto _ _ c.in-Upto-q.is)) in
-    omega arith
+pub expression-loop-pass-preserved : goal.expression-loop-pass-preserved
+expression-loop-pass-preserved t c = λ v old g.
+    let role = sym c.role_of.ensures ∙ ap role_said (c.in-Some-Or.is ∙ ap (λ r. Some r) c.in-Some-Or.field-0-is) in
+    sofar_more or·op (c.loop-pass.invariant v old g) role c.next.ensures c.conjunction-in-Some-Or.ensures c.in_ok-part-2.was c.put_plain.ensures
 
-pub expression-loop-out-smaller : goal.expression-loop-out-smaller
-expression-loop-out-smaller t c =
-    let g = c.loop-out.invariant _ _ (sofar_first or·op c.requires.1 c.conjunction-r.ensures c.in-Upto.is) in
-    let role = sym c.role_of-role.ensures ∙ ap role_said c.in-Or.is in
-    omega (arith, side_fewer or·op g role c.next.ensures, (c.conjunction-q.ensures.upto _ _ c.in-Upto-q.is).fewer)
+pub expression-returns-in_default : goal.expression-returns-in_default
+expression-returns-in_default t c =
+    let g = c.loop-pass.invariant _ _ (sofar_first or·op c.requires.1 c.conjunction.ensures c.in_ok-part.was) in
+    let other : c.in_default.field-0 ≡ Or → ⊥ = search rules in
+    sofar_last or·op g (not_joint or·op c.role_of.result c.role_of.ensures (λ e. other (let x : c.in_default.field-0 ≡ Or = cc (e, c.in_default.is) in x)))
 
-pub expression-loop-out-preserved : goal.expression-loop-out-preserved
-expression-loop-out-preserved t c = λ v old g.
-    sofar_more or·op (c.loop-out.invariant v old g) (sym c.role_of-role.ensures ∙ ap role_said c.in-Or.is) c.next.ensures
-    c.conjunction-q.ensures c.in-Upto-q.is c.plain.ensures c.put_record.ensures
+pub expression-returns-in_default-2 : goal.expression-returns-in_default-2
+expression-returns-in_default-2 t c =
+    let g = c.loop-pass.invariant _ _ (sofar_first or·op c.requires.1 c.conjunction.ensures c.in_ok-part.was) in
+    sofar_last or·op g (not_joint or·op c.role_of.result c.role_of.ensures (λ e. let z : ◌≡◌ {A = ℕ} 0 1 = cc (e, c.in_default.is) in omega arith))
 
-pub factor-returns-then-level-ge-LEVEL_LIMIT : goal.factor-returns-then-level-ge-LEVEL_LIMIT
-factor-returns-then-level-ge-LEVEL_LIMIT t c =
+pub factor-returns-in_err-inside-in-Bang : goal.factor-returns-in_err-inside-in-Bang
+factor-returns-in_err-inside-in-Bang t c =
     let token = sort_token _ c.args.t c.in-Bang.is in
-    says_stopped refl (opens_deep c.requires.1 a_bang token c.if-level-ge-LEVEL_LIMIT.true)
+    let handed : c.from_residual.result ≡ Err c.in_err-inside-in-Bang.field-0.0 = search rules in
+    rw handed (too_deep c.requires.1 a_bang token c.deeper.ensures.refused c.in_err-inside-in-Bang.was)
 
-pub factor-overflow_add-level : goal.factor-overflow_add-level
-factor-overflow_add-level t c = omega (arith, c.requires.0)
-
-pub factor-factor-r-requires : goal.factor-factor-r-requires
-factor-factor-r-requires t c = let token = (sort_token _ c.args.t c.in-Bang.is) in (
-  omega (arith, c.requires, next_fewer c.requires.1 token c.next.ensures),
-  (omega (arith, c.if-level-ge-LEVEL_LIMIT.false), next_ready c.requires.1 token c.next.ensures),
-)
-
-pub factor-shape_of-out-in_default-r : goal.factor-shape_of-out-in_default-r
-factor-shape_of-out-in_default-r t c = c.factor-r.auto.out
-
-pub factor-returns-in_default-r : goal.factor-returns-in_default-r
-factor-returns-in_default-r t c =
+pub factor-factor-requires : goal.factor-factor-requires
+factor-factor-requires t c =
     let token = sort_token _ c.args.t c.in-Bang.is in
-    opened_stops c.requires.1 a_bang token c.if-level-ge-LEVEL_LIMIT.false c.next.ensures c.in_default-r.is c.factor-r.ensures
+    let deeper = c.deeper.ensures.allowed _ c.in_ok-inside-in-Bang.was in
+    (omega (arith, c.requires, next_fewer c.requires.1 token c.next.ensures), (omega (arith, deeper), next_ready c.requires.1 token c.next.ensures))
 
-pub factor-overflow_mul-m : goal.factor-overflow_mul-m
-factor-overflow_mul-m t c =
+pub factor-returns-in_err-part-in-Bang : goal.factor-returns-in_err-part-in-Bang
+factor-returns-in_err-part-in-Bang t c =
     let token = sort_token _ c.args.t c.in-Bang.is in
-    let small = ready_small (read_ready (next_ready c.requires.1 token c.next.ensures) (c.factor-r.ensures.upto _ _ c.in-Upto.is)) in
-    omega arith
+    let handed : c.from_residual-in_err-part-in-Bang.result ≡ Err c.in_err-part-in-Bang.field-0.0 = search rules in
+    rw handed (opened_stops c.requires.1 a_bang token (c.deeper.ensures.allowed _ c.in_ok-inside-in-Bang.was) c.next.ensures c.in_err-part-in-Bang.was c.factor.ensures)
+
+pub factor-put_plain-requires : goal.factor-put_plain-requires
+factor-put_plain-requires t c =
+    let token = sort_token _ c.args.t c.in-Bang.is in
+    (ready_small (read_ready (next_ready c.requires.1 token c.next.ensures) (c.factor.ensures.upto _ c.in_ok-part-in-Bang.was)), omega arith)
 
 pub factor-overflow_add-result : goal.factor-overflow_add-result
 factor-overflow_add-result t c =
     let token = sort_token _ c.args.t c.in-Bang.is in
-    let small = ready_small (read_ready (next_ready c.requires.1 token c.next.ensures) (c.factor-r.ensures.upto _ _ c.in-Upto.is)) in
-    omega arith
+    omega (arith, ready_small (read_ready (next_ready c.requires.1 token c.next.ensures) (c.factor.ensures.upto _ c.in_ok-part-in-Bang.was)))
 
-pub factor-returns-then-level-ge-LEVEL_LIMIT-2 : goal.factor-returns-then-level-ge-LEVEL_LIMIT-2
-factor-returns-then-level-ge-LEVEL_LIMIT-2 t c =
+pub factor-returns-in_err-inside-in-Open : goal.factor-returns-in_err-inside-in-Open
+factor-returns-in_err-inside-in-Open t c =
     let token = sort_token _ c.args.t c.in-Open.is in
-    says_stopped refl (opens_deep c.requires.1 a_group token c.if-level-ge-LEVEL_LIMIT-2.true)
+    let handed : c.from_residual-in_err-inside-in-Open.result ≡ Err c.in_err-inside-in-Open.field-0.0 = search rules in
+    rw handed (too_deep c.requires.1 a_group token c.deeper-in-Open.ensures.refused c.in_err-inside-in-Open.was)
 
-pub factor-overflow_add-level-in-Open : goal.factor-overflow_add-level-in-Open
-factor-overflow_add-level-in-Open t c = omega (arith, c.requires.0)
-
-pub factor-expression-r-requires : goal.factor-expression-r-requires
-factor-expression-r-requires t c = let token = (sort_token _ c.args.t c.in-Open.is) in (
-  omega (arith, c.requires, next_fewer c.requires.1 token c.next-in-Open.ensures),
-  (omega (arith, c.if-level-ge-LEVEL_LIMIT-2.false), next_ready c.requires.1 token c.next-in-Open.ensures),
-)
-
-pub factor-shape_of-out-in_default-r-2 : goal.factor-shape_of-out-in_default-r-2
-factor-shape_of-out-in_default-r-2 t c = c.expression-r.auto.out
-
-pub factor-returns-in_default-r-2 : goal.factor-returns-in_default-r-2
-factor-returns-in_default-r-2 t c =
+pub factor-expression-requires : goal.factor-expression-requires
+factor-expression-requires t c =
     let token = sort_token _ c.args.t c.in-Open.is in
-    opened_stops c.requires.1 a_group token c.if-level-ge-LEVEL_LIMIT-2.false c.next-in-Open.ensures c.in_default-r-2.is c.expression-r.ensures
+    let deeper = c.deeper-in-Open.ensures.allowed _ c.in_ok-inside-in-Open.was in
+    (omega (arith, c.requires, next_fewer c.requires.1 token c.next-in-Open.ensures), (omega (arith, deeper), next_ready c.requires.1 token c.next-in-Open.ensures))
 
-pub factor-shape_of-out-in_default-close : goal.factor-shape_of-out-in_default-close
-factor-shape_of-out-in_default-close t c = c.expression-r.auto.out
-
-pub factor-returns-in_default-close : goal.factor-returns-in_default-close
-factor-returns-in_default-close t c =
+pub factor-returns-in_err-part-in-Open : goal.factor-returns-in_err-part-in-Open
+factor-returns-in_err-part-in-Open t c =
     let token = sort_token _ c.args.t c.in-Open.is in
-    group_stops c.requires.1 token c.if-level-ge-LEVEL_LIMIT-2.false c.next-in-Open.ensures c.expression-r.ensures c.in-Upto-r.is
-    c.in_default-close.not-Close
+    let handed : c.from_residual-in_err-part-in-Open.result ≡ Err c.in_err-part-in-Open.field-0.0 = search rules in
+    rw handed (opened_stops c.requires.1 a_group token (c.deeper-in-Open.ensures.allowed _ c.in_ok-inside-in-Open.was) c.next-in-Open.ensures c.in_err-part-in-Open.was
+    c.expression.ensures)
 
-pub factor-test-requires : goal.factor-test-requires
-factor-test-requires t c = (c.requires.1, no_level c.args.t.sort c.in_default.not-Bang c.in_default.not-Open)
+pub factor-returns-in_default-sort : goal.factor-returns-in_default-sort
+factor-returns-in_default-sort t c =
+    let token = sort_token _ c.args.t c.in-Open.is in
+    rw c.at.ensures (group_stops c.requires.1 token (c.deeper-in-Open.ensures.allowed _ c.in_ok-inside-in-Open.was) c.next-in-Open.ensures c.expression.ensures
+    c.in_ok-part-in-Open.was c.in_default-sort.not-Close)
 
-pub factor-shape_of-out-in-Upto : goal.factor-shape_of-out-in-Upto
-factor-shape_of-out-in-Upto t c = c.put_record.auto.out ∙ c.factor-r.auto.out
-
-pub factor-returns-in-Upto : goal.factor-returns-in-Upto
-factor-returns-in-Upto t c =
+pub factor-returns-in_ok-part-in-Bang : goal.factor-returns-in_ok-part-in-Bang
+factor-returns-in_ok-part-in-Bang t c =
     let token = sort_token _ c.args.t c.in-Bang.is in
-    negation c.requires.1 token c.if-level-ge-LEVEL_LIMIT.false c.next.ensures c.factor-r.ensures c.in-Upto.is c.plain.ensures c.put_record.ensures
-
-pub factor-shape_of-out-in-Close : goal.factor-shape_of-out-in-Close
-factor-shape_of-out-in-Close t c = c.expression-r.auto.out
+    negation c.requires.1 token (c.deeper.ensures.allowed _ c.in_ok-inside-in-Bang.was) c.next.ensures c.factor.ensures c.in_ok-part-in-Bang.was c.put_plain.ensures
 
 pub factor-returns-in-Close : goal.factor-returns-in-Close
 factor-returns-in-Close t c =
     let token = sort_token _ c.args.t c.in-Open.is in
-    group c.requires.1 token c.if-level-ge-LEVEL_LIMIT-2.false c.next-in-Open.ensures c.expression-r.ensures c.in-Upto-r.is c.in-Close.is
-    c.next-in-Open-2.ensures
-
-pub factor-shape_of-out-in_default : goal.factor-shape_of-out-in_default
-factor-shape_of-out-in_default t c = c.test.auto.out
-
-pub factor-returns-in_default : goal.factor-returns-in_default
-factor-returns-in_default t c = c.test.ensures.says _
+    group c.requires.1 token (c.deeper-in-Open.ensures.allowed _ c.in_ok-inside-in-Open.was) c.next-in-Open.ensures c.expression.ensures c.in_ok-part-in-Open.was
+    c.in-Close.is c.next-in-Open-2.ensures

@@ -18,19 +18,17 @@ abbrev pub decreases-factor : goal.decreases-factor
 decreases-factor l = 3 * length (from l.text.now l.t)
 
 -- the sides that were read keep what holds of them where the loop begins
-abbrev pub invariant-conjunction-loop-out : goal.invariant-conjunction-loop-out
-invariant-conjunction-loop-out l =
-    (v : Lexeme) (old : List ℕ) → Sofar and·op l.text l.level v l.n old l.initial.u l.initial.m l.initial.out → Sofar and·op l.text l.level
-    v l.n old l.u l.m l.out
+abbrev pub invariant-conjunction-loop-pass : goal.invariant-conjunction-loop-pass
+invariant-conjunction-loop-pass l =
+    (v : Lexeme) (old : List ℕ) → Sofar and·op l.text l.level v l.n old l.initial.part l.initial.out → Sofar and·op l.text l.level v l.n old l.part l.out
 
-abbrev pub decreases-conjunction-loop-out : goal.decreases-conjunction-loop-out
-decreases-conjunction-loop-out l = length (from l.text l.u)
+abbrev pub decreases-conjunction-loop-pass : goal.decreases-conjunction-loop-pass
+decreases-conjunction-loop-pass l = length (from l.text l.part.next)
 
 -- the sides that were read keep what holds of them where the loop begins
-abbrev pub invariant-expression-loop-out : goal.invariant-expression-loop-out
-invariant-expression-loop-out l =
-    (v : Lexeme) (old : List ℕ) → Sofar or·op l.text l.level v l.n old l.initial.u l.initial.m l.initial.out → Sofar or·op l.text l.level v
-    l.n old l.u l.m l.out
+abbrev pub invariant-expression-loop-pass : goal.invariant-expression-loop-pass
+invariant-expression-loop-pass l =
+    (v : Lexeme) (old : List ℕ) → Sofar or·op l.text l.level v l.n old l.initial.part l.initial.out → Sofar or·op l.text l.level v l.n old l.part l.out
 
-abbrev pub decreases-expression-loop-out : goal.decreases-expression-loop-out
-decreases-expression-loop-out l = length (from l.text l.u)
+abbrev pub decreases-expression-loop-pass : goal.decreases-expression-loop-pass
+decreases-expression-loop-pass l = length (from l.text l.part.next)

@@ -4,12 +4,12 @@ use Rattle.filter.specs.Functions.{compiling_of}
 use Rattle.grainlantern_c.specs.Programs.{compiled_for_c}
 use Rattle.grainlantern_c.proofs.grainlantern_compile.Goals as goal
 
-pub returns-in-Program : goal.returns-in-Program
+pub returns-in-Ok : goal.returns-in-Ok
 unfolding compiling_of
-returns-in-Program c = rw (c.answer.ensures.0, c.answer.ensures.1)
-    (ap compiled_for_c (rw c.in-Program.is at c.compile-compiled.ensures))
+returns-in-Ok c = rw (c.answer.ensures.0, c.answer.ensures.1)
+    (ap compiled_for_c (rw c.in-Ok.is at c.compile.ensures))
 
-pub returns-in-Refused : goal.returns-in-Refused
+pub returns-in-Err : goal.returns-in-Err
 unfolding compiling_of
-returns-in-Refused c = rw (c.answer-in-Refused.ensures.0, c.number_of.ensures, c.answer-in-Refused.ensures.1)
-    (ap compiled_for_c (rw c.in-Refused.is at c.compile-compiled.ensures))
+returns-in-Err c = rw (c.answer-in-Err.ensures.0, c.from.ensures, c.answer-in-Err.ensures.1)
+    (ap compiled_for_c (rw c.in-Err.is at c.compile.ensures))

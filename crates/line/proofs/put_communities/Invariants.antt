@@ -1,16 +1,12 @@
--- `line::put_communities` meets its contract. The loop's invariant: the communities from `p` on are left to write. Assumes nothing.
-use Prim.Native.Nat.{◌-◌, ◌≤◌}
-use lib.ListN.{length}
+-- `line::put_communities` meets its contract. The loop's invariant: the communities that the iterator has left are left to write. Assumes nothing.
+use mathlib.Core.List.{map}
 use Rattle.octets.proofs.Writes.{Midst}
+use Rattle.communities.specs.Left.{communities_left}
+use Rattle.communities.specs.Text.{community_text}
 use Rattle.line.specs.Text.{space, following}
-use Rattle.line.proofs.Communities.{community_texts}
 use Rattle.line.proofs.put_communities.Given as goal
 
-abbrev pub invariant-loop-p : goal.invariant-loop-p
-invariant-loop-p l = (l.p ≤ length l.body)
-    × Midst
-    l.initial.out l.initial.place (following space (community_texts l.body l.initial.p))
-    l.out l.place (following space (community_texts l.body l.p))
-
-abbrev pub decreases-loop-p : goal.decreases-loop-p
-decreases-loop-p l = length l.body - l.p
+abbrev pub invariant-loop-community : goal.invariant-loop-community
+invariant-loop-community l = Midst
+    l.initial.out l.initial.place (following space (map community_text (communities_left l.initial.community-iterator)))
+    l.out l.place (following space (map community_text (communities_left l.community-iterator)))

@@ -7,11 +7,11 @@ use Rattle.aspath.specs.Wire.{width_bytes, segments_of}
 use Rattle.line.specs.Text.{space, following, segment_text}
 use Rattle.line.proofs.put_path.Given as goal
 
-abbrev pub invariant-loop-width : goal.invariant-loop-width
-invariant-loop-width l = (l.p ≤ length l.s)
+abbrev pub invariant-loop-size : goal.invariant-loop-size
+invariant-loop-size l = (l.p ≤ length l.s)
     × Midst
     l.initial.out l.initial.place (following space (map segment_text (segments_of (width_bytes l.width) (drop l.initial.p l.s))))
     l.out l.place (following space (map segment_text (segments_of (width_bytes l.width) (drop l.p l.s))))
 
-abbrev pub decreases-loop-width : goal.decreases-loop-width
-decreases-loop-width l = length l.s - l.p
+abbrev pub decreases-loop-size : goal.decreases-loop-size
+decreases-loop-size l = length l.s - l.p

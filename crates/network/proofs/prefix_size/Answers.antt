@@ -1,7 +1,9 @@
 -- `network::prefix_size` meets its contract, by the byte at the place. Assumes nothing.
 use borrow.Author.Tests.{lt-ltb, le-ltb}
-use mathlib.Core.Path.{refl}
+use native.Mathlib.Omega.{arith}
+use mathlib.Core.Path.{refl, sym}
 use lib.ListN.{drop_of_length-le}
+use Rattle.octets.proofs.Rows.{some_sized}
 use Rattle.network.specs.Networks.{address_bits}
 use Rattle.network.specs.Wire.{prefix_size}
 use Rattle.network.proofs.Prefixes.{size_at}
@@ -21,4 +23,4 @@ returns-then-s-at-2 c = let a = c.args in
 
 pub returns : goal.returns
 returns c = let a = c.args in
-    rw (size_at address_bits a.s.now a.at) (simp (le-ltb _ _ c.if-len-gt-LONGEST_PREFIX.false, le-ltb _ _ c.if-s-at-2.false))
+    rw (size_at address_bits a.s.now a.at) (simp (le-ltb _ _ c.if-len-gt-LONGEST_PREFIX.false, le-ltb _ _ c.if-s-at-2.false) (sym (some_sized (λ z. omega arith))))

@@ -1,41 +1,31 @@
 -- `network::prefixes_whole` meets its contract. The loop's invariant: what is left is prefixes to its end just where the section is. Assumes nothing.
 use native.Mathlib.Omega.{arith}
-use mathlib.Core.Path.{refl, sym, ◌∙◌}
-use lib.ListN.{drop, length-drop}
-use lib.Seq.{drop-drop}
-use Rattle.octets.proofs.Rows.{whole_end, whole_bad, whole_next}
+use mathlib.Core.Path.{sym, ◌∙◌}
+use Rattle.octets.proofs.Rows.{step, whole_step, whole_stop}
 use Rattle.network.specs.Networks.{address_bits}
 use Rattle.network.specs.Wire.{prefix_size}
 use Rattle.network.proofs.Prefixes.{prefix_sizes}
 use Rattle.network.proofs.prefixes_whole.Goals as goal
 
-pub loop-at-init : goal.loop-at-init
-loop-at-init c = (omega arith, refl)
-
-pub returns-then-size-eq0 : goal.returns-then-size-eq0
-returns-then-size-eq0 c = let s = c.args.s.now in
-    let l = c.loop-at in
-    sym (whole_bad (prefix_size address_bits) (drop l.at s) (simp length-drop (omega arith)) (sym c.prefix_size-size.ensures ∙ c.if-size-eq0.true))
-    ∙ l.invariant.1
-
 pub overflow_add-at : goal.overflow_add-at
-overflow_add-at c = let s = c.args.s.now in
-    let l = c.loop-at in
-    omega (arith, (prefix_sizes address_bits).fits (drop l.at s), length-drop l.at s)
+overflow_add-at c =
+    let x = step (prefix_size address_bits) (prefix_sizes address_bits) c.args.s.now c.loop-size.at (sym c.in-Some.is ∙ c.prefix_size.ensures) in
+    omega arith
 
-pub loop-at-smaller : goal.loop-at-smaller
-loop-at-smaller c = omega arith
+pub loop-size-smaller : goal.loop-size-smaller
+loop-size-smaller c =
+    let x = step (prefix_size address_bits) (prefix_sizes address_bits) c.args.s.now c.loop-size.at (sym c.in-Some.is ∙ c.prefix_size.ensures) in
+    omega arith
 
-pub loop-at-preserved : goal.loop-at-preserved
-loop-at-preserved c = let s = c.args.s.now in
-    let l = c.loop-at in
-    let e = c.prefix_size-size.ensures in (
-      omega (arith, (prefix_sizes address_bits).fits (drop l.at s), length-drop l.at s),
-      rw (e, ← drop-drop (prefix_size address_bits (drop l.at s)) l.at s)
-          (sym (whole_next (prefix_size address_bits) (prefix_sizes address_bits) (drop l.at s) (λ z. c.if-size-eq0.false (e ∙ z))) ∙ l.invariant.1),
-    )
+pub loop-size-preserved : goal.loop-size-preserved
+loop-size-preserved c =
+    let l = c.loop-size in
+    let s = c.args.s.now in
+    let e = sym c.in-Some.is ∙ c.prefix_size.ensures in
+    let x = step (prefix_size address_bits) (prefix_sizes address_bits) s l.at e in
+    (x.fits, whole_step (prefix_size address_bits) (prefix_sizes address_bits) s l.at e ∙ l.invariant.1)
 
 pub returns : goal.returns
-returns c = let s = c.args.s.now in
-    let l = c.loop-at in
-    sym (whole_end (prefix_size address_bits) (drop l.at s) (simp length-drop (omega arith))) ∙ l.invariant.1
+returns c =
+    let l = c.loop-size in
+    whole_stop (prefix_size address_bits) (prefix_sizes address_bits) c.args.s.now l.at l.invariant.0 (sym c.in_default.is ∙ c.prefix_size.ensures) ∙ l.invariant.1

@@ -7,8 +7,8 @@ use Rattle.network.specs.Networks.{address_bits}
 use Rattle.network.specs.Wire.{prefix_size}
 use Rattle.network.proofs.prefixes_whole.Given as goal
 
-abbrev pub invariant-loop-at : goal.invariant-loop-at
-invariant-loop-at l = (l.at ≤ length l.s) × (whole (prefix_size address_bits) (drop l.at l.s) ≡ whole (prefix_size address_bits) l.s)
+abbrev pub invariant-loop-size : goal.invariant-loop-size
+invariant-loop-size l = (l.at ≤ length l.s) × (whole (prefix_size address_bits) (drop l.at l.s) ≡ whole (prefix_size address_bits) l.s)
 
-abbrev pub decreases-loop-at : goal.decreases-loop-at
-decreases-loop-at l = length l.s - l.at
+abbrev pub decreases-loop-size : goal.decreases-loop-size
+decreases-loop-size l = length l.s - l.at

@@ -1,43 +1,15 @@
--- `program::all_right` meets its contract. The loop's invariant: the records from the place on all pass just where the program's do. Assumes nothing.
-use native.Mathlib.Omega.{arith}
-use mathlib.Core.Path.{refl, sym, ◌∙◌}
-use lib.ListN.{length, drop, length-drop}
-use lib.Seq.{drop-drop}
+-- `program::all_right` meets its contract: the chain makes the test at each place. Assumes nothing.
+use Rattle.std.proofs.Common.{rules, ◌∙◌, ℕ, ◌*◌, ◌/◌, drop, length, arith}
+use Rattle.std.proofs.lemmas.Iterator.{YieldsList-from_range}
+use Rattle.std.proofs.lemmas.Iterator.Search.{all_from_yields_List}
 use Rattle.program.specs.Layout.{record_size}
-use Rattle.program.proofs.Walks.{right_checks, checks_end, checks_bad, checks_next}
+use Rattle.program.specs.Checks.{right_record}
+use Rattle.program.proofs.Walks.{each_listed}
 use Rattle.program.proofs.all_right.Goals as goal
 
-pub loop-at-init : goal.loop-at-init
-loop-at-init c = (omega arith, refl)
-
-pub overflow_sub-program : goal.overflow_sub-program
-overflow_sub-program c = omega arith
-
-pub right_record-requires : goal.right_record-requires
-right_record-requires c = omega arith
-
-pub returns-then-not-right_record : goal.returns-then-not-right_record
-returns-then-not-right_record c = let s = c.args.program.now in
-    let l = c.loop-at in
-    let e = sym c.right_record.ensures ∙ c.if-not-right_record.true in
-    sym (checks_bad right_checks (length s) (drop l.at s) (simp length-drop (omega arith)) (simp length-drop (omega arith)) e) ∙ l.invariant.1
-
-pub overflow_add-at : goal.overflow_add-at
-overflow_add-at c = omega arith
-
-pub loop-at-smaller : goal.loop-at-smaller
-loop-at-smaller c = omega arith
-
-pub loop-at-preserved : goal.loop-at-preserved
-loop-at-preserved c = let s = c.args.program.now in
-    let l = c.loop-at in
-    let e = sym c.right_record.ensures ∙ c.if-not-right_record.false in (
-      omega arith,
-      rw (← drop-drop record_size l.at s)
-          (sym (checks_next right_checks (length s) (drop l.at s) (simp length-drop (omega arith)) (simp length-drop (omega arith)) e) ∙ l.invariant.1),
-    )
-
 pub returns : goal.returns
-returns c = let s = c.args.program.now in
-    let l = c.loop-at in
-    sym (checks_end right_checks (length s) (drop l.at s) (simp length-drop (omega arith))) ∙ l.invariant.1
+returns c =
+    let s = c.args.program.now in
+    let n = length s / record_size in
+    all_from_yields_List (λ (k : ℕ). right_record (drop (record_size * k) s)) _ _ _ c.all.ensures.ran (YieldsList-from_range 0 n n (search rules) (omega arith)) (λ x b q k. search rules)
+    ∙ each_listed right_record n s

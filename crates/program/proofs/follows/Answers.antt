@@ -1,4 +1,4 @@
--- `program::follows` meets its contract: what may follow are items. Assumes nothing.
+-- `program::follows` meets its contract, by its definition. Assumes nothing.
 use Rattle.program.specs.Checks.{follows_in}
 use Rattle.program.proofs.follows.Goals as goal
 

@@ -1,13 +1,12 @@
--- `program::grouped` meets its contract. The loop's invariant: the records are grouped just where those from the place on are. Assumes nothing.
-use Prim.Native.Nat.{◌-◌, ◌≤◌}
+-- `program::grouped` meets its contract. The loop's invariant: the records are grouped just where those that are left are. Assumes nothing.
 use mathlib.Core.Path.{◌≡◌}
-use lib.ListN.{length, drop}
+use lib.ListN.{length}
 use Rattle.octets.specs.Rows.{whole}
 use Rattle.program.specs.Checks.{group_size}
 use Rattle.program.proofs.grouped.Given as goal
 
-abbrev pub invariant-loop-at : goal.invariant-loop-at
-invariant-loop-at l = (l.at ≤ length l.program) × (whole group_size (drop l.at l.program) ≡ whole group_size l.program)
+abbrev pub invariant-loop-size : goal.invariant-loop-size
+invariant-loop-size l = whole group_size l.rest ≡ whole group_size l.program
 
-abbrev pub decreases-loop-at : goal.decreases-loop-at
-decreases-loop-at l = length l.program - l.at
+abbrev pub decreases-loop-size : goal.decreases-loop-size
+decreases-loop-size l = length l.rest

@@ -12,22 +12,22 @@ use Rattle.truth.proofs.has_communities.Goals as goal
 
 pub returns-in_default : goal.returns-in_default
 returns-in_default c = let a = c.args in
-    rw (first_found (asks_communities (width_bytes a.width)) a.section.now, sym c.find-found.ensures ∙ c.in_default.is) refl
+    rw (first_found (asks_communities (width_bytes a.width)) a.section.now, sym c.find.ensures ∙ c.in_default.is) refl
 
 pub returns-then-not-follows : goal.returns-then-not-follows
 returns-then-not-follows c = let a = c.args in
     let held : first_of ask_communities (attributes_of (width_bytes a.width) a.section.now)
-    ≡ Some (communities_of (part_at a.section.now c.in-At.start c.in-At.len))
-    = first_found (asks_communities (width_bytes a.width)) a.section.now ∙ rw (sym c.find-found.ensures ∙ c.in-At.is) refl in
+    ≡ Some (communities_of (part_at a.section.now c.in-Some.held.start c.in-Some.held.len))
+    = first_found (asks_communities (width_bytes a.width)) a.section.now ∙ rw (sym c.find.ensures ∙ c.in-Some.is) refl in
     rw (held, sym c.follows.ensures ∙ c.if-not-follows.true) refl
 
 pub holds_each-requires : goal.holds_each-requires
 holds_each-requires c = let a = c.args in
-    rw c.following-count.ensures (sym (communities_stand a.f a.behind.now c.requires) ∙ sym c.follows.ensures ∙ c.if-not-follows.false)
+    rw c.following.ensures (sym (communities_stand a.f a.behind.now c.requires) ∙ sym c.follows.ensures ∙ c.if-not-follows.false)
 
 pub returns : goal.returns
 returns c = let a = c.args in
     let held : first_of ask_communities (attributes_of (width_bytes a.width) a.section.now)
-    ≡ Some (communities_of (part_at a.section.now c.in-At.start c.in-At.len))
-    = first_found (asks_communities (width_bytes a.width)) a.section.now ∙ rw (sym c.find-found.ensures ∙ c.in-At.is) refl in
-    rw (held, sym c.follows.ensures ∙ c.if-not-follows.false, ← c.following-count.ensures, ← c.part.ensures) c.holds_each.ensures
+    ≡ Some (communities_of (part_at a.section.now c.in-Some.held.start c.in-Some.held.len))
+    = first_found (asks_communities (width_bytes a.width)) a.section.now ∙ rw (sym c.find.ensures ∙ c.in-Some.is) refl in
+    rw (held, sym c.follows.ensures ∙ c.if-not-follows.false, ← c.following.ensures, ← c.part.ensures) c.holds_each.ensures

@@ -1,11 +1,10 @@
 -- `truth::holds_each` meets its contract. The loop's invariant: all numbers are held just where those left are. Assumes nothing.
-use Prim.Native.Nat.{ℕ, ◌-◌}
+use Prim.Native.Nat.{ℕ, ◌-◌, ◌*◌}
 use native.Mathlib.Omega.{arith}
 use mathlib.Core.Path.{◌≡◌, refl, sym, ap, ◌∙◌}
 use mathlib.Core.Bool.{true, false}
 use mathlib.Core.List.{List, [], ◌∷◌}
-use lib.ListN.{drop, length-drop}
-use lib.Seq.{drop-drop}
+use lib.ListN.{drop}
 use Rattle.octets.specs.Lists.{every_passes}
 use Rattle.communities.specs.Communities.{communities_of, is_held, holds_all}
 use Rattle.program.specs.declared.Fields.{Fields}
@@ -13,9 +12,7 @@ use Rattle.program.specs.Layout.{record_size, fields_in}
 use Rattle.program.specs.Checks.{number_variant}
 use Rattle.truth.specs.Records.{number_of}
 use Rattle.truth.specs.Matching.{numbers_in}
-use Rattle.truth.proofs.ItemReads.{finds_numbers, number_decoded, one_read, each_none, Next, next}
-use Prim.Native.Nat.{ℕ, ◌-◌}
-use Rattle.program.specs.declared.Fields.{Fields}
+use Rattle.truth.proofs.ItemReads.{finds_numbers, number_decoded, one_read, each_none, Next, next_left, passed_next}
 use Rattle.truth.proofs.holds_each.Goals as goal
 
 module _ (held : List ℕ) where
@@ -40,44 +37,29 @@ stands : {n more : ℕ} {l : List ℕ} {f : Fields} → Next number_of number_va
 stands {l = l} h e =
     h.all ∙ rw (one_read number_of h.decoded (number_decoded (fields_in l) h.is_item_lem) refl ∙ ap (λ (f : Fields). f.a) (sym e)) refl
 
-pub loop-left-init : goal.loop-left-init
-loop-left-init c = (omega arith, c.requires, refl)
-
 pub returns-then-not-has : goal.returns-then-not-has
 returns-then-not-has c = let a = c.args in
-    let l = c.loop-left in
-    let h = next finds_numbers {n = l.left} (l.left - 1) (drop l.at a.records.now) (omega arith) l.invariant.1 in
+    let l = c.loop-n in
+    let h = next_left finds_numbers {n = l.n} {count = a.count} (drop (record_size * l.n) a.records.now) (omega arith) l.invariant.0 in
     let held = communities_of a.body.now in
-    sym ((sym l.invariant.2 ∙ ap (holds_all held) (stands h c.fields_at-asked.ensures))
+    sym ((sym l.invariant.1 ∙ ap (holds_all held) (stands h c.fields_at-asked.ensures))
     ∙ one_missing held _ _ (sym c.has.ensures ∙ c.if-not-has.true))
 
-pub overflow_add-at : goal.overflow_add-at
-overflow_add-at c = let a = c.args in
-    let l = c.loop-left in
-    let h = next finds_numbers {n = l.left} (l.left - 1) (drop l.at a.records.now) (omega arith) l.invariant.1 in
-    let held = communities_of a.body.now in
-    omega (arith, h.fits, length-drop l.at a.records.now)
-
-pub overflow_sub-left : goal.overflow_sub-left
-overflow_sub-left c = omega arith
-
-pub loop-left-smaller : goal.loop-left-smaller
-loop-left-smaller c = omega arith
-
-pub loop-left-preserved : goal.loop-left-preserved
-loop-left-preserved c = let a = c.args in
-    let l = c.loop-left in
-    let h = next finds_numbers {n = l.left} (l.left - 1) (drop l.at a.records.now) (omega arith) l.invariant.1 in
+pub loop-n-preserved : goal.loop-n-preserved
+loop-n-preserved c = let a = c.args in
+    let l = c.loop-n in
+    let h = next_left finds_numbers {n = l.n} {count = a.count} (drop (record_size * l.n) a.records.now) (omega arith) l.invariant.0 in
     let held = communities_of a.body.now in
     let same = sym (one_held held _ _ (sym c.has.ensures ∙ c.if-not-has.false))
-    ∙ sym (sym l.invariant.2 ∙ ap (holds_all held) (stands h c.fields_at-asked.ensures)) in
-    let after = drop-drop record_size l.at a.records.now in
-    (omega (arith, h.fits, length-drop l.at a.records.now), rw after at h.rest, rw after at same)
+    ∙ sym (sym l.invariant.1 ∙ ap (holds_all held) (stands h c.fields_at-asked.ensures)) in
+    let after = passed_next l.n a.records.now in
+    (rw after at h.rest, rw after at same)
 
 pub returns : goal.returns
 returns c = let a = c.args in
-    let l = c.loop-left in
+    let l = c.loop-n in
     let held = communities_of a.body.now in
-    let z : l.left ≡ 0 = omega arith in
-    let none = ap (λ (n : ℕ). numbers_in n (drop l.at a.records.now)) z ∙ each_none number_of (drop l.at a.records.now) in
-    sym (sym l.invariant.2 ∙ ap (holds_all held) none ∙ none_left held)
+    let rest = drop (record_size * l.n) a.records.now in
+    let z : a.count - l.n ≡ 0 = omega arith in
+    let none = ap (λ (n : ℕ). numbers_in n rest) z ∙ each_none number_of rest in
+    sym (sym l.invariant.1 ∙ ap (holds_all held) none ∙ none_left held)

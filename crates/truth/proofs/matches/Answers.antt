@@ -1,6 +1,6 @@
 -- `truth::matches` meets its contract, by whether `^` stands. Assumes nothing.
 use native.Mathlib.Omega.{arith}
-use mathlib.Core.Path.{◌≡◌, refl, sym, ◌∙◌}
+use mathlib.Core.Path.{◌≡◌, refl, sym, ap, ◌∙◌}
 use mathlib.Core.Bool.{true}
 use mathlib.Core.List.{List}
 use lib.Dec.{leb}
@@ -8,15 +8,15 @@ use borrow.Author.Tests.{lt-leb, le-leb}
 use Rattle.octets.proofs.Choices.{alike}
 use Rattle.aspath.specs.Members.{Member}
 use Rattle.aspath.specs.Wire.{width_bytes, members_of}
-use Rattle.aspath.specs.Patterns.{matches}
-use Rattle.aspath.proofs.Cursors.{whole_path}
+use Rattle.aspath.specs.Patterns.{matches, matches_here, matches_some}
 use Rattle.truth.specs.Matching.{items_in, pattern_of, path_matches}
 use Rattle.truth.proofs.ItemReads.{path_stands}
-use Rattle.truth.proofs.PathReads.{at_members, pinned, free}
+use Rattle.truth.proofs.PathReads.{pinned, free}
 use mathlib.Core.List.{List}
 use Prim.Native.Nat.{ℕ, ◌≤◌}
 use Rattle.program.specs.declared.Fields.{Fields}
 use Rattle.program.specs.Checks.{following_in, follows_in}
+use Rattle.truth.proofs.matches.Goals.{then-f-gt-LAST_ENDS-via-then-f-gt-LAST_ENDS, then-f-gt-LAST_ENDS-via-else-f-gt-LAST_ENDS+then-not-follows}
 use Rattle.truth.proofs.matches.Goals as goal
 
 -- where what follows may, whether the items match is what is left
@@ -25,10 +25,11 @@ told : (f : Fields) (behind : List ℕ) (path : List Member) (n : ℕ) → f.var
 told f behind path n h e d = rw (le-leb f.variant 3 h, e, d) refl
 
 pub returns-then-f-gt-LAST_ENDS : goal.returns-then-f-gt-LAST_ENDS
-returns-then-f-gt-LAST_ENDS c = rw (lt-leb _ 3 c.if-f-gt-LAST_ENDS.true) refl
-
-pub returns-then-not-follows : goal.returns-then-not-follows
-returns-then-not-follows c = rw (sym c.follows.ensures ∙ c.if-not-follows.true) (sym (alike (leb c.args.f.variant 3) refl refl))
+returns-then-f-gt-LAST_ENDS c = elim c.then-f-gt-LAST_ENDS.branch [
+  | then-f-gt-LAST_ENDS-via-then-f-gt-LAST_ENDS w ↦ rw (lt-leb _ 3 w.if-f-gt-LAST_ENDS.true) refl
+  | then-f-gt-LAST_ENDS-via-else-f-gt-LAST_ENDS+then-not-follows w ↦
+      rw (sym w.follows.ensures ∙ w.if-not-follows.true) (sym (alike (leb c.args.f.variant 3) refl refl))
+]
 
 pub matches_here-requires : goal.matches_here-requires
 matches_here-requires c = let a = c.args in
@@ -36,17 +37,15 @@ matches_here-requires c = let a = c.args in
 
 pub returns-then-is_start : goal.returns-then-is_start
 returns-then-is_start c = let a = c.args in
-    let w = width_bytes a.width in
-    let path = a.path.now in
+    let path = members_of (width_bytes a.width) a.path.now in
     let follow = sym c.follows.ensures ∙ c.if-not-follows.false in
     let start = sym c.is_start.ensures ∙ c.if-is_start.true in
     rw (
-      told a.f a.behind.now (members_of w path) _ (omega arith) follow c.following-count.ensures,
-      pinned a.f _ (members_of w path) start,
+      told a.f a.behind.now path _ (omega arith) follow c.following-count.ensures,
+      pinned a.f _ path start,
       ← c.is_end-end.ensures,
-      ← whole_path w path,
     )
-    (c.matches_here.ensures ∙ at_members _ w path _ _)
+    (c.matches_here.ensures ∙ ap (matches_here c.is_end-end.result (items_in c.following-count.result a.behind.now)) c.members_of-members.ensures)
 
 pub matches_some-requires : goal.matches_some-requires
 matches_some-requires c = let a = c.args in
@@ -61,4 +60,5 @@ returns c = let a = c.args in
       told a.f a.behind.now path _ (omega arith) follow c.following-count.ensures,
       free a.f _ path start,
       ← c.is_end-end.ensures,
-    ) c.matches_some.ensures
+    )
+    (c.matches_some.ensures ∙ ap (matches_some c.is_end-end.result (items_in c.following-count.result a.behind.now)) c.members_of-members.ensures)
