@@ -1,6 +1,7 @@
 -- Laws of numbers in their bytes, as text. Assumes nothing.
 use Prim.Native.Nat.{ℕ, zero, suc, ◌+◌, ◌-◌, ◌*◌, ◌≤◌, ◌<◌}
 use native.Mathlib.Nat.{add-zero, suc-mul}
+use native.Mathlib.Numerals.{add-one}
 use native.Mathlib.Omega.{arith}
 use mathlib.Core.Path.{◌≡◌, refl, sym, ◌∙◌}
 use mathlib.Core.List.{List, [], ◌∷◌, ◌++◌, map}
@@ -34,10 +35,9 @@ pub numbers_end : (w n : ℕ) (l : List ℕ) → n ≡ 0 → map decimal (number
 unfolding numbers_in
 numbers_end w n l z = rw z refl
 
--- the bytes of a number and of those after it
-pub numbers_room : (w n : ℕ) → 0 < n → n * w ≡ w + (n - 1) * w
-numbers_room w zero h = absurd (omega arith)
-numbers_room w (suc n) h = let e : suc n - 1 ≡ n = omega arith in rw (e, suc-mul) (omega arith)
+-- the place after that of the i-th number
+pub next_place : (start i w : ℕ) → start + (i + 1) * w ≡ start + i * w + w
+next_place start i w = rw (add-one, suc-mul) (omega arith)
 
 -- the texts of a segment's numbers, by the places of the whole
 abbrev pub number_texts : ℕ → List ℕ → ℕ → List (List ℕ)

@@ -82,13 +82,9 @@ fn put_numbers(
     }
     let w = aspath::width_bytes(width);
     let mut place = octets::put_decimal(out, at, octets::number(s, start, w));
-    let mut p = start + w;
-    let mut left = count - 1;
-    while 0 < left {
+    for i in 1..count {
         place = octets::put(out, place, separator);
-        place = octets::put_decimal(out, place, octets::number(s, p, w));
-        p += w;
-        left -= 1;
+        place = octets::put_decimal(out, place, octets::number(s, start + i * w, w));
     }
     place
 }
