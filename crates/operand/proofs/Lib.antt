@@ -2,7 +2,6 @@
 pub mod AsNumberLaws
 pub mod Blanks
 pub mod CommunitiesMeant
-pub mod CommunityReads
 pub mod Decimals
 pub mod Fractions
 pub mod FrontReads
@@ -21,11 +20,10 @@ pub mod OperandNetworks
 pub mod OperandPatterns
 pub mod OperandPeers
 pub mod OperandTimes
+pub mod PartedFronts
 pub mod PartedLaws
 pub mod PartedMade
-pub mod PartedPlaces
-pub mod PatternMeant
-pub mod PatternReads
-pub mod Places
 pub mod PrintedCommunities
+pub mod PatternMeant
+pub mod Said
 pub mod Samples

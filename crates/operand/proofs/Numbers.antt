@@ -1,71 +1,105 @@
--- What the code's answers that are numbers say. Assumes nothing.
+-- Reading a number digit by digit, and its bound. Assumes nothing.
 use Prim.Native.Nat.{ℕ, ◌+◌, ◌-◌, ◌*◌, ◌≤◌, ◌<◌}
 use native.Mathlib.Omega.{arith}
-use native.Mathlib.Numerals.{add-one}
-use mathlib.Core.Path.{◌≡◌, refl, sym, ◌∙◌}
-use mathlib.Core.Bool.{Bool, true, false}
+use mathlib.Core.Path.{◌≡◌, refl, sym, ap, ◌∙◌}
+use mathlib.Core.Bool.{Bool, true, false, ◌&&◌}
+use mathlib.Core.List.{List, [], ◌∷◌}
 use Rattle.std.specs.Prelude.{Option, None, Some}
-use mathlib.Core.List.{List}
+use borrow.Author.Tests.{le-leb}
 use lib.Dec.{leb}
-use lib.ListN.{length, get_or, drop}
-use lib.Seq.{drop-cons}
-use borrow.Author.Tests.{leb-false}
+use lib.ListN.{length}
 use Rattle.octets.specs.Choice.{pick}
+use Rattle.std.specs.Char.{is_ascii_digit}
 use Rattle.operand.specs.Fronts.{Read, read}
-use Rattle.operand.specs.Decimals.{is_digit, number_on, number, left_at, value_of, ReadAt}
-use Rattle.operand.specs.declared.Number.{Number}
-use Rattle.operand.specs.declared.Number.TheVariants.{Read as read_to, Missing as missing}
-use Rattle.operand.proofs.FrontReads.{Stops}
-use Rattle.operand.proofs.Decimals.{number_stop, digit_zero, digit_over, digit_taken}
+use Rattle.operand.specs.Decimals.{is_digit, digit_read, number_on, number}
+use Rattle.operand.proofs.FrontReads.{Stops, end, other}
+use Rattle.operand.proofs.Decimals.{digit_of, number_stop, number_none, digit_zero, digit_over, digit_taken, number_sound}
+use Rattle.operand.proofs.Holding.{some_once, holds_some}
 
--- two answers that can't be the same
-pub not_read : {P : Type 0} {v e : ℕ} → missing ≡ read_to v e → P
-not_read q = let z : ◌≡◌ {A = ℕ} 0 1 = cc in absurd (omega arith)
+-- the digit at the front, by its byte
+pub digit_at : {x : ℕ} {s r : List ℕ} → s ≡ x ∷ r → digit_read s ≡ pick (is_digit x) (Some (read (x - 48) r)) None
+unfolding digit_read
+digit_at e = rw e
 
--- what an answer says of a reader, by its variant
-module _ (s : List ℕ) {r : Number} {o : Option (Read ℕ)} (e : left_at s r ≡ o) where
-  pub said_none : r ≡ missing → o ≡ None
-  said_none q = sym e ∙ rw q
+-- a byte that is a digit stands at the front
+pub record DigitFront (l : List ℕ) (d : Read ℕ) : Type 0 where
+  pub byte : ℕ
+  pub is : is_digit byte ≡ true
+  pub joined : l ≡ byte ∷ d.rest
+  pub value : d.value ≡ byte - 48
 
-  pub said_some : {v w : ℕ} → r ≡ read_to v w → o ≡ Some (read v (drop w s))
-  said_some q = sym e ∙ rw q
-
--- the same of a number alone
-module _ {r : Number} {o : Option ℕ} (e : value_of r ≡ o) where
-  pub value_none : r ≡ missing → o ≡ None
-  value_none q = sym e ∙ rw q
-
-  pub value_some : {v w : ℕ} → r ≡ read_to v w → o ≡ Some v
-  value_some q = sym e ∙ rw q
-
-module _ (reader : List ℕ → Option (Read ℕ)) (s : List ℕ) (at limit : ℕ) where
-  -- the answer where nothing is read
-  pub read_none : reader (drop at s) ≡ None → ReadAt reader s at limit missing
-  read_none e = record { said = sym e; ends = λ v w q. not_read q }
-
-  -- and where something is
-  pub read_some : (v w : ℕ) → reader (drop at s) ≡ Some (read v (drop w s)) → w ≤ length s → v < limit → ReadAt reader s at limit (read_to v w)
-  read_some v w e h k = record { said = sym e; ends = λ u x q. let y : v ≡ u = cc in let z : w ≡ x = cc in (omega arith, omega arith) }
-
--- where no digit follows
-pub number_ends : (s : List ℕ) (at limit w n : ℕ) {r : Number} → number_on limit (leb w at) n (drop w s) ≡ number limit (drop at s) → Stops is_digit (drop w s) → w ≤ length s → (at < w → n < limit)
-    → r ≡ pick (leb w at) missing (read_to n w) → ReadAt (number limit) s at limit r
-number_ends s at limit w n {r} i st h k e = go (leb w at) (leb-false w at) e (sym (number_stop limit (leb w at) n st) ∙ i)
+pub digit_front : (l : List ℕ) {d : Read ℕ} → digit_read l ≡ Some d → DigitFront l d
+unfolding digit_read
+digit_front [] e = let z : ◌≡◌ {A = ℕ} 0 1 = cc in absurd (omega arith)
+digit_front (b ∷ bs) {d} e = go (is_digit b) refl e
   where
-    go : (b : Bool) → (b ≡ false → at < w) → r ≡ pick b missing (read_to n w) → pick b None (Some (read n (drop w s))) ≡ number limit (drop at s) → ReadAt (number limit) s at limit r
-    go true f e j = rw e (read_none (number limit) s at limit (sym j))
-    go false f e j = rw e (read_some (number limit) s at limit n w (sym j) h (k (f refl)))
+    go : (t : Bool) → is_digit b ≡ t → pick t (Some (read (b - 48) bs)) None ≡ Some d → DigitFront (b ∷ bs) d
+    go true y f =
+        let q : read (b - 48) bs ≡ d = some_once refl f in
+        record { byte = b; is = y; joined = ap (λ (r : Read ℕ). b ∷ r.rest) q; value = ap (λ (r : Read ℕ). r.value) (sym q) }
+    go false y f = let z : ◌≡◌ {A = ℕ} 0 1 = cc in absurd (omega arith)
 
--- a digit at a place
-module _ (s : List ℕ) (limit : ℕ) (fresh : Bool) (n w : ℕ) (h : w < length s) (e : is_digit (get_or s w 0) ≡ true) where
-  -- behind a leading zero
-  pub zero_at : pick fresh true (leb 1 n) ≡ false → number_on limit fresh n (drop w s) ≡ None
-  zero_at z = rw (drop-cons s w 0) (digit_zero limit fresh n _ _ e z)
+-- no digit does
+pub digit_stops : (l : List ℕ) → digit_read l ≡ None → Stops is_digit l
+unfolding digit_read
+digit_stops [] e = end
+digit_stops (b ∷ bs) e = other (go (is_digit b) e)
+  where
+    go : (t : Bool) → pick t (Some (read (b - 48) bs)) None ≡ None → t ≡ false
+    go true f = let z : ◌≡◌ {A = ℕ} 0 1 = cc in absurd (omega arith)
+    go false f = refl
 
-  -- that leads to the limit
-  pub over_at : limit ≤ 10 * n + (get_or s w 0 - 48) → number_on limit fresh n (drop w s) ≡ None
-  over_at k = rw (drop-cons s w 0) (digit_over limit fresh n _ _ e k)
+module _ (l : List ℕ) {d : Read ℕ} (e : digit_read l ≡ Some d) where
+  -- a digit is at most 9
+  pub digit_small : d.value ≤ 9
+  digit_small = let x = digit_front l e in rw x.value (digit_of x.byte x.is).1
 
-  -- that is taken
-  pub taken_at : pick fresh true (leb 1 n) ≡ true → 10 * n + (get_or s w 0 - 48) < limit → number_on limit fresh n (drop w s) ≡ number_on limit false (10 * n + (get_or s w 0 - 48)) (drop (w + 1) s)
-  taken_at z k = rw (drop-cons s w 0, add-one) (digit_taken limit fresh n _ _ e z k)
+  -- fewer bytes stand behind it
+  pub digit_shorter : length d.rest < length l
+  digit_shorter = let x = digit_front l e in rw x.joined (omega arith)
+
+  module _ (limit n : ℕ) where
+    -- none stands behind a leading zero
+    pub number_zero : n ≡ 0 → number_on limit false n l ≡ None
+    number_zero z = let x = digit_front l e in rw (x.joined, z) (digit_zero limit false 0 x.byte d.rest x.is refl)
+
+    -- nor is one read that leads to the limit
+    pub number_over : limit ≤ 10 * n + d.value → number_on limit false n l ≡ None
+    number_over h = let x = digit_front l e in rw x.joined (digit_over limit false n x.byte d.rest x.is (rw x.value at h))
+
+    -- any other is
+    pub number_more : (n ≡ 0 → ⊥) → 10 * n + d.value < limit → number_on limit false n l ≡ number_on limit false (10 * n + d.value) d.rest
+    number_more f h =
+        let x = digit_front l e in
+        let m = digit_taken limit false n x.byte d.rest x.is (le-leb 1 n (omega arith)) (rw x.value at h) in
+        rw x.joined (m ∙ ap (λ (k : ℕ). number_on limit false (10 * n + k) d.rest) (sym x.value))
+
+  -- the first is a number
+  pub number_first : (limit : ℕ) → 9 < limit → number limit l ≡ number_on limit false d.value d.rest
+  unfolding number
+  number_first limit h =
+      let x = digit_front l e in
+      let y = (digit_of x.byte x.is).1 in
+      rw x.joined
+      (digit_taken limit true 0 x.byte d.rest x.is refl (omega arith) ∙ ap (λ (k : ℕ). number_on limit false k d.rest) (omega (arith, x.value)))
+
+-- without a digit there is no number
+pub number_missing : (limit : ℕ) (l : List ℕ) → digit_read l ≡ None → number limit l ≡ None
+number_missing limit l e = number_none limit (digit_stops l e)
+
+-- and one that is begun ends
+pub number_ends : (limit n : ℕ) (l : List ℕ) → digit_read l ≡ None → number_on limit false n l ≡ Some (read n l)
+number_ends limit n l e = number_stop limit false n (digit_stops l e)
+
+-- a number that was read is below its limit
+pub number_below : (limit : ℕ) (l : List ℕ) {r : Read ℕ} → number limit l ≡ Some r → r.value < limit
+number_below limit l e = (holds_some (number_sound limit l) e).says.below
+
+-- the library's test of a digit is ours
+pub ascii_digit : (b : ℕ) {r : Bool} → r ≡ is_ascii_digit b → is_digit b ≡ r
+unfolding is_digit
+ascii_digit b e = sym (e ∙ go (leb 48 b) (leb b 57))
+  where
+    go : (t u : Bool) → (t && u) ≡ pick t u false
+    go true u = refl
+    go false u = refl

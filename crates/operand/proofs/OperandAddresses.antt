@@ -1,17 +1,15 @@
 -- Addresses: decided, and by places. Assumes nothing.
-use Prim.Native.Nat.{ℕ, ◌≤◌}
+use Prim.Native.Nat.{ℕ, ◌<◌}
 use native.Mathlib.Omega.{arith}
 use mathlib.Core.Path.{◌≡◌, refl, sym, ap, ◌∙◌}
 use Rattle.std.specs.Prelude.{None, Some}
 use mathlib.Core.List.{List, ◌∷◌, ◌++◌, append_assoc}
 use lib.ListN.{length, drop}
 use Rattle.operand.specs.Decimals.{byte_limit, Below, is_digit}
-use Rattle.operand.proofs.Holding.{AnswerHolds, held, holds_onward}
+use Rattle.operand.proofs.Holding.{AnswerHolds, held, holds_onward, holds_some}
 use Rattle.operand.proofs.FrontReads.{Got, Stops, other, after_sound, after_complete}
 use Rattle.operand.proofs.Decimals.{number_sound, number_complete}
-use Rattle.operand.specs.Addresses.{Address, part_read, address_read, address_left, AddressAt}
-use Rattle.operand.specs.declared.AddressRead.{AddressRead}
-use Rattle.operand.specs.declared.AddressRead.TheVariants.{Read as Found, Missing}
+use Rattle.operand.specs.Addresses.{Address, part_read, address_read}
 use Rattle.operand.specs.Fronts.{Read, read}
 
 -- ---- a part of an address and its dot
@@ -25,6 +23,10 @@ record Parted (l : List ℕ) (r : Read ℕ) : Type 0 where
 part_sound : (l : List ℕ) → AnswerHolds (Parted l) (part_read l)
 unfolding part_read
 part_sound l = holds_onward (number_sound byte_limit l) (λ n g. holds_onward (after_sound 46 n.rest) (λ r e. held (record { text = g.text; joined = rw (← e) g.joined; says = g.says })))
+
+-- a part that was read is that of a byte
+pub part_below : (l : List ℕ) {r : Read ℕ} → part_read l ≡ Some r → r.value < byte_limit
+part_below l e = (holds_some (part_sound l) e).says.below
 
 -- and every part is read
 part_complete : {text : List ℕ} {n : ℕ} → Below byte_limit text n → (rest : List ℕ) → part_read (text ++ (46 ∷ rest)) ≡ Some (read n rest)
@@ -65,21 +67,3 @@ unfolding address_read
 address_complete {text} {rest} x s =
     let e : text ++ rest ≡ x.aText ++ (46 ∷ (x.bText ++ (46 ∷ (x.cText ++ (46 ∷ (x.dText ++ rest)))))) = rw x.joined (simp append_assoc) in
     rw (e, x.value, part_complete x.a_is, part_complete x.b_is, part_complete x.c_is, number_complete x.d_is s)
-
--- ---- by places
-
--- the answer where none stands
-pub address_missing : (s : List ℕ) (at : ℕ) → address_read (drop at s) ≡ None → AddressAt s at Missing
-address_missing s at e = record { said = sym e; ends = λ a w q. let z : ◌≡◌ {A = ℕ} 0 1 = cc in absurd (omega arith) }
-
--- and where one does
-pub address_found : (s : List ℕ) (at a e : ℕ) → address_read (drop at s) ≡ Some (read a (drop e s)) → e ≤ length s → AddressAt s at (Found a e)
-address_found s at a e h l = record { said = sym h; ends = λ b w q. let z : e ≡ w = cc in omega arith }
-
--- what an answer says of the reader, by its variant
-module _ {s : List ℕ} {at : ℕ} {r : AddressRead} (x : AddressAt s at r) where
-  pub address_none : r ≡ Missing → address_read (drop at s) ≡ None
-  address_none z = sym x.said ∙ ap (address_left s) z
-
-  pub address_some : {a e : ℕ} → r ≡ Found a e → address_read (drop at s) ≡ Some (read a (drop e s))
-  address_some z = sym x.said ∙ ap (address_left s) z

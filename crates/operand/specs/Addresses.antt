@@ -2,12 +2,11 @@
 use Rattle.std.specs.Prelude.{ℕ, ◌+◌, ◌*◌, ◌≤◌, ◌≡◌, List, ◌∷◌, ◌++◌, eqb, length, get_or, drop}
 use Rattle.std.specs.Prelude.{Option, None, Some}
 use Rattle.octets.specs.Choice.{pick, onward}
-use Rattle.network.specs.Networks.{address_bits, Network, masked}
+use Rattle.network.specs.Networks.{address_bits, Network, masked, network_in}
+use Rattle.network.specs.declared.Network.{Network as Held}
 use Rattle.program.specs.Readings.{Side, either_side, announced, withdrawn}
 use Rattle.operand.specs.Fronts.{Read, read, after}
 use Rattle.operand.specs.Decimals.{byte_limit, Below, numeral, number}
-use Rattle.operand.specs.declared.AddressRead.{AddressRead}
-use Rattle.operand.specs.declared.AddressRead.TheVariants.{Read as Found, Missing}
 
 -- `a.b.c.d`, each part 0 to 255
 pub record Address (bs : List ℕ) (address : ℕ) : Type 0 where
@@ -80,14 +79,9 @@ network_operand l =
     pick (eqb (get_or l 0 0) 43) (side_of announced (drop 1 l))
     (pick (eqb (get_or l 0 0) 45) (side_of withdrawn (drop 1 l)) (side_of either_side l))
 
--- ---- what the answers of the code say, by places
+-- ---- what an answer of the code says
 
--- the address, and what is left where it ends
-abbrev pub address_left : List ℕ → AddressRead → Option (Read ℕ)
-address_left s (Found a e) = Some (read a (drop e s))
-address_left s Missing = None
-
--- the address at a place
-pub record AddressAt (s : List ℕ) (at : ℕ) (r : AddressRead) : Type 0 where
-  pub said : address_left s r ≡ address_read (drop at s)
-  pub ends : (a e : ℕ) → r ≡ Found a e → e ≤ length s
+-- the network
+abbrev pub network_found : Option Held → Option Network
+network_found None = None
+network_found (Some n) = Some (network_in n)

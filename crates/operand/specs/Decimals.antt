@@ -4,8 +4,6 @@ use Rattle.std.specs.Prelude.{Option, None, Some}
 use Rattle.octets.specs.Choice.{pick}
 use Rattle.octets.specs.Decimal.{Decimal}
 use Rattle.operand.specs.Fronts.{Read, read, wholly}
-use Rattle.operand.specs.declared.Number.{Number}
-use Rattle.operand.specs.declared.Number.TheVariants.{Read as read_to, Missing as missing}
 
 -- the value of a byte is below it
 abbrev pub byte_limit : ℕ
@@ -31,6 +29,11 @@ pub data Digits : ℕ → List ℕ → ℕ → Type 0 where
 unfoldable pub is_digit : ℕ → Bool
 is_digit b = pick (leb 48 b) (leb b 57) false
 
+-- the digit at the front
+unfoldable pub digit_read : List ℕ → Option (Read ℕ)
+digit_read [] = None
+digit_read (b ∷ bs) = pick (is_digit b) (Some (read (b - 48) bs)) None
+
 -- behind digits that say n, or none yet where fresh: none at a digit behind a leading zero, none from the limit on
 unfoldable pub number_on : ℕ → Bool → ℕ → List ℕ → Option (Read ℕ)
 number_on limit fresh n [] = pick fresh None (Some (read n []))
@@ -46,18 +49,3 @@ number limit l = number_on limit true 0 l
 -- the number that all of the bytes write
 unfoldable pub numeral : ℕ → List ℕ → Option ℕ
 numeral limit l = wholly (number limit l)
-
--- what an answer of the code says: the number, and what is left where it ends
-abbrev pub left_at : List ℕ → Number → Option (Read ℕ)
-left_at s (read_to v e) = Some (read v (drop e s))
-left_at s missing = None
-
--- the number alone
-abbrev pub value_of : Number → Option ℕ
-value_of (read_to v e) = Some v
-value_of missing = None
-
--- the answer of a reader at a place, below a limit
-pub record ReadAt (reader : List ℕ → Option (Read ℕ)) (s : List ℕ) (at limit : ℕ) (r : Number) : Type 0 where
-  pub said : left_at s r ≡ reader (drop at s)
-  pub ends : (v e : ℕ) → r ≡ read_to v e → (e ≤ length s) × (v < limit)

@@ -1,6 +1,7 @@
 -- Reading from the front of bytes, as the code goes: what was read, and what is left behind it.
 use Rattle.std.specs.Prelude.{ℕ, Bool, true, false, List, [], ◌∷◌, eqb, take, drop}
 use Rattle.std.specs.Prelude.{Option, None, Some}
+use Rattle.std.specs.Borrow.{Bor}
 use Rattle.octets.specs.Choice.{pick, onward}
 use Rattle.token.specs.Next.{run}
 
@@ -12,6 +13,16 @@ pub record Read (A : Type 0) : Type 0 where
 -- a value that was read, and what is left
 abbrev pub read : {A : Type 0} → A → List ℕ → Read A
 read a r = record { value = a; rest = r }
+
+-- an answer of the code: a value and the bytes left behind it
+abbrev pub said : {A : Type 0} → Option (A × Bor (List ℕ)) → Option (Read A)
+said None = None
+said (Some r) = Some (read r.0 r.1.now)
+
+-- the same of the bytes alone
+abbrev pub left : Option (Bor (List ℕ)) → Option (List ℕ)
+left None = None
+left (Some r) = Some r.now
 
 -- what was read, if nothing is left
 abbrev pub ended : {A : Type 0} → List ℕ → A → Option A

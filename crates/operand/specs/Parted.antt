@@ -1,11 +1,10 @@
 -- What is parted by blanks, whatever one of it is: R says how one is written.
-use Rattle.std.specs.Prelude.{ℕ, zero, suc, ◌≤◌, ◌≡◌, List, [], ◌∷◌, ◌++◌, length, drop}
+use Rattle.std.specs.Prelude.{ℕ, zero, suc, ◌≤◌, ◌≡◌, List, [], ◌∷◌, ◌++◌, length}
 use Rattle.std.specs.Prelude.{Option, None, Some}
 use Rattle.octets.specs.Lists.{Every}
 use Rattle.token.specs.Texts.{Blank}
 use Rattle.token.specs.Next.{is_blank}
 use Rattle.operand.specs.Fronts.{Read, read, cut}
-use Rattle.operand.specs.declared.Items.{Items}
 
 -- one or more with blanks between; or none
 pub data PartedText {A : Type 0} (R : List ℕ → A → Type 0) : List ℕ → List A → Type 0 where
@@ -36,10 +35,3 @@ module _ {A : Type 0} (one : List ℕ → Option (Read A)) where
   -- all of them
   abbrev pub all_parted : List ℕ → Read (List A)
   all_parted l = parted_read (length l) l
-
-  -- the number of those at a place, and what is left behind them
-  pub record PartedAt (s : List ℕ) (at : ℕ) (r : Items) : Type 0 where
-    pub count_is : r.count ≡ length (all_parted (drop at s)).value
-    pub left : drop r.end s ≡ (all_parted (drop at s)).rest
-    pub high : r.end ≤ length s
-    pub few : r.count ≤ length s

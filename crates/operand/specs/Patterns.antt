@@ -1,5 +1,5 @@
 -- `-aspath`: optional `^`, items parted by blanks, optional `$`; blanks around these are free.
-use Rattle.std.specs.Prelude.{ℕ, ◌+◌, ◌≤◌, ◌≡◌, Bool, true, false, List, [], ◌∷◌, ◌++◌, length, drop}
+use Rattle.std.specs.Prelude.{ℕ, ◌≡◌, Bool, true, false, List, [], ◌∷◌, ◌++◌}
 use Rattle.std.specs.Prelude.{Option, None, Some}
 use Rattle.octets.specs.Choice.{pick, or_else, onward}
 use Rattle.octets.specs.Lists.{Every}
@@ -65,11 +65,3 @@ pattern_items l = all_parted item_read (cut is_blank (pattern_opened l).rest).re
 -- the pattern that these bytes write
 unfoldable pub pattern_operand : List ℕ → Option Pattern
 pattern_operand l = pattern_closed (pattern_opened l).value (pattern_items l).value (optional 36 (pattern_items l).rest)
-
--- ---- what an answer of the code says, by places
-
--- r is the place after a byte b that may stand at a place
-pub record OptionalEnd (b : ℕ) (s : List ℕ) (at r : ℕ) : Type 0 where
-  pub left : drop r s ≡ (optional b (drop at s)).rest
-  pub place : r ≡ at + pick (optional b (drop at s)).value 1 0
-  pub high : r ≤ length s

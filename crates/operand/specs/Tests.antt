@@ -17,8 +17,7 @@ use Rattle.operand.specs.Peers.{PeerOperand, peer_operand}
 use Rattle.operand.specs.Patterns.{PatternOperand, pattern_operand}
 use Rattle.operand.specs.Communities.{CommunitiesOperand, communities_operand}
 use Rattle.operand.specs.Times.{TimeOperand, time_operand}
-use Rattle.operand.specs.declared.Meant.{Meant}
-use Rattle.operand.specs.declared.Meant.TheVariants.{Head, Broken}
+use Rattle.operand.specs.declared.Head.{Head}
 use Rattle.operand.specs.declared.Name.{Name}
 use Rattle.operand.specs.declared.Name.TheVariants.{MessageType as type_name, Attribute as attribute_name, Path as path_name}
 use Rattle.operand.specs.declared.Name.TheVariants.{Peer as peer_name, Time as time_name, Network as network_name, Communities as communities_name}
@@ -54,20 +53,20 @@ abbrev pub following_meant : Option Test → List Record
 following_meant None = []
 following_meant (Some t) = following_of t
 
--- the head of a test and how many records follow it, or that the operand breaks its test's rule
-abbrev pub meant_of : Option Test → Meant
-meant_of None = Broken
-meant_of (Some t) = Head (head_fields (head_of t)) (length (following_of t))
+-- the head of a test and how many records follow it; none where the operand breaks its test's rule
+abbrev pub meant_of : Option Test → Option Head
+meant_of None = None
+meant_of (Some t) = Some (record { fields = head_fields (head_of t); following = length (following_of t) })
 
 -- the record of a code, of a kind
-abbrev pub code_meant : ℕ → Option ℕ → Meant
-code_meant k None = Broken
-code_meant k (Some c) = Head (fields k 0 0 c 0) 0
+abbrev pub code_meant : ℕ → Option ℕ → Option Head
+code_meant k None = None
+code_meant k (Some c) = Some (record { fields = fields k 0 0 c 0; following = 0 })
 
 -- the record of a peer
-abbrev pub peer_meant : Option Peer → Meant
+abbrev pub peer_meant : Option Peer → Option Head
 peer_meant o = meant_of (onward o (λ p. Some (peer_is p)))
 
 -- the record of a network on a side
-abbrev pub network_meant : Relation → Side → Option Network → Meant
+abbrev pub network_meant : Relation → Side → Option Network → Option Head
 network_meant r s o = meant_of (onward o (λ n. Some (network_is r n s)))

@@ -1,14 +1,11 @@
 -- `-timestamp`: optional `>=`, `>`, `=`, `<`, `<=` (none means `=`), seconds below 2^32, optionally a dot and 1 to 6 digits.
-use Rattle.std.specs.Prelude.{ℕ, ◌+◌, ◌-◌, ◌*◌, ◌^◌, ◌≤◌, ◌<◌, ◌≡◌, List, [], ◌∷◌, ◌++◌, length, get_or, drop, eqb, leb}
+use Rattle.std.specs.Prelude.{ℕ, ◌+◌, ◌-◌, ◌*◌, ◌^◌, ◌≤◌, ◌<◌, ◌≡◌, Bool, List, [], ◌∷◌, ◌++◌, length, get_or, drop, eqb, leb}
 use Rattle.std.specs.Prelude.{Option, None, Some}
 use Rattle.octets.specs.Choice.{pick, onward}
 use Rattle.program.specs.Readings.{Comparison, equal, below, at_most, above, at_least}
 use Rattle.program.specs.Layout.{comparison_code}
 use Rattle.operand.specs.Fronts.{Read, read}
-use Rattle.operand.specs.Decimals.{Below, Digits, is_digit, number, value_of}
-use Rattle.operand.specs.declared.Number.{Number}
-use Rattle.operand.specs.declared.Number.TheVariants.{Read as read_to}
-use Rattle.operand.specs.declared.Sign.{Sign}
+use Rattle.operand.specs.Decimals.{Below, Digits, is_digit, number}
 
 -- the seconds of a time are below it
 abbrev pub seconds_limit : ℕ
@@ -84,13 +81,12 @@ time_operand l =
     onward (number seconds_limit (comparison l).rest) (λ s. onward (fraction_of s.rest) (λ m.
     Some (moment (comparison l).value s.value m)))
 
--- a comparison by its code, and where it ends
-pub record Signed (s : List ℕ) (r : Sign) : Type 0 where
-  pub code : r.code ≡ comparison_code (comparison s).value
-  pub rest : drop r.end s ≡ (comparison s).rest
-  pub within : r.end ≤ length s
+-- ---- what answers of the code say
 
--- the digits from a place on
-pub record Digited (s : List ℕ) (at : ℕ) (r : Number) : Type 0 where
-  pub said : value_of r ≡ any_digits 0 (drop at s)
-  pub below : (v e : ℕ) → r ≡ read_to v e → v < 10 ^ (length s - at)
+-- a comparison by its code
+abbrev pub signed : Read Comparison → Read ℕ
+signed r = read (comparison_code r.value) r.rest
+
+-- one of two codes, the second where a byte was taken
+abbrev pub either_code : ℕ → ℕ → Read Bool → Read ℕ
+either_code c d r = read (pick r.value d c) r.rest

@@ -1,27 +1,28 @@
 // Operands: what the bytes of a test's operand stand for.
 #![tactic(auto)]
 
-ghost use Rattle.std.specs.Prelude.{◌≡◌, ◌+◌, ◌-◌, ◌*◌, ◌^◌, ◌≤◌, ◌<◌, length, drop, leb, Some};
-ghost use Rattle.octets.specs.Choice.{pick, or_else, onward};
+ghost use Rattle.std.specs.Prelude.{◌≡◌, ◌-◌, ◌*◌, ◌^◌, ◌≤◌, ◌<◌, length};
+ghost use Rattle.octets.specs.Choice.{or_else};
 ghost use Rattle.octets.specs.Writes.{Written};
-ghost use Rattle.program.specs.Readings.{by_as, Side};
+ghost use Rattle.program.specs.Readings.{Side};
+ghost use Rattle.program.specs.Layout.{fields, fields_of, encode_all, relation_code, side_code, ends_code};
 ghost use Rattle.program.specs.Records.{item};
-ghost use Rattle.program.specs.Layout.{fields, fields_of, encode_all, relation_code, side_code};
 ghost use Rattle.token.specs.Texts.{text_limit};
-ghost use Rattle.operand.specs.Fronts.{wholly};
-ghost use Rattle.operand.specs.Decimals.{byte_limit, word_limit, is_digit, number, numeral, left_at, value_of, ReadAt};
-ghost use Rattle.operand.specs.AsNumbers.{as_limit, as_number, as_numeral};
-ghost use Rattle.operand.specs.Addresses.{part_read, network_read, AddressAt};
+ghost use Rattle.token.specs.Next.{is_blank};
+ghost use Rattle.operand.specs.Fronts.{said, left, wholly, after, read, optional, cut};
+ghost use Rattle.operand.specs.Decimals.{byte_limit, word_limit, digit_read, number, numeral};
+ghost use Rattle.operand.specs.AsNumbers.{as_number, as_numeral};
+ghost use Rattle.operand.specs.Addresses.{part_read, address_read, network_found, network_read};
 ghost use Rattle.operand.specs.Peers.{behind_address};
-ghost use Rattle.operand.specs.Parted.{PartedAt};
-ghost use Rattle.operand.specs.Patterns.{OptionalEnd, item_read};
+ghost use Rattle.operand.specs.Parted.{all_parted};
+ghost use Rattle.operand.specs.Patterns.{item_read, pattern_opened};
 ghost use Rattle.operand.specs.Communities.{halves_read, name_read, community_read};
-ghost use Rattle.operand.specs.Listed.{listed_read, listed_records, ItemAt};
-ghost use Rattle.operand.specs.Times.{fraction_digits, fraction_of, Signed, Digited};
+ghost use Rattle.operand.specs.Listed.{listed_read, listed_records, list_records};
+ghost use Rattle.operand.specs.Times.{fraction_digits, any_digits, fraction_of, comparison, signed, either_code};
 ghost use Rattle.operand.specs.Tests.{meaning, operand_meaning, following_meant, meant_of, code_meant, peer_meant, network_meant};
 
 use aspath::Item;
-use network::Relation;
+use network::{Network, Relation};
 use program::{Fields, Kind};
 
 // The value of a byte is below it: a code, or a part of an address.
@@ -38,16 +39,6 @@ const ADDRESS_BITS: u64 = network::ADDRESS_BITS as u64;
 const LENGTH_LIMIT: u64 = ADDRESS_BITS + 1;
 // A half of a community is below it.
 const HALF_LIMIT: u64 = communities::HALF_LIMIT as u64;
-// The signs before a network and a time.
-const PLUS: u32 = b'+' as u32;
-
-const MINUS: u32 = b'-' as u32;
-
-const EQUALS: u32 = b'=' as u32;
-
-const LESS: u32 = b'<' as u32;
-
-const GREATER: u32 = b'>' as u32;
 
 // The tests that have an operand.
 #[derive(Clone, Copy)]
@@ -61,25 +52,11 @@ pub enum Name {
     Communities,
 }
 
-// The head of a test and how many records follow it, or that its operand breaks the test's rule.
+// The head of a test and how many records follow it.
 #[derive(Clone, Copy)]
-pub enum Meant {
-    Head { fields: Fields, following: u32 },
-    Broken,
-}
-
-// A number and the place behind it.
-#[derive(Clone, Copy)]
-enum Number {
-    Read { value: u32, end: usize },
-    Missing,
-}
-
-// An address and the place behind it.
-#[derive(Clone, Copy)]
-enum AddressRead {
-    Read { address: u32, end: usize },
-    Missing,
+pub struct Head {
+    pub fields: Fields,
+    pub following: u32,
 }
 
 // What is listed in an operand, a record each.
@@ -89,32 +66,11 @@ enum Listed {
     Communities,
 }
 
-// An item, a pattern's or a community, and the place after it; or that none stands there.
-#[derive(Clone, Copy)]
-enum ItemRead {
-    Read { item: Item, end: usize },
-    Missing,
-}
-
-// How many items there are, and where they and the blanks behind them end.
-#[derive(Clone, Copy)]
-struct Items {
-    count: u32,
-    end: usize,
-}
-
-// A comparison's code and the place behind it.
-#[derive(Clone, Copy)]
-struct Sign {
-    code: u32,
-    end: usize,
-}
-
 // A head that nothing follows.
-fn head(kind: u32, variant: u32, count: u32, a: u32, b: u32) -> Meant
-    ensures { result ≡ Meant.Head (fields kind variant count a b) 0 }
+fn lone_head(kind: u32, variant: u32, count: u32, a: u32, b: u32) -> Head
+    ensures { result ≡ record { fields = fields kind variant count a b; following = 0 } }
 {
-    Meant::Head {
+    Head {
         fields: Fields {
             kind,
             variant,
@@ -126,141 +82,131 @@ fn head(kind: u32, variant: u32, count: u32, a: u32, b: u32) -> Meant
     }
 }
 
-fn is_digit(b: u8) -> bool
-    ensures { result ≡ is_digit b }
+// The bytes behind a byte that must stand at the front.
+fn after(b: u8, s: &[u8]) -> Option<&[u8]>
+    ensures { left result ≡ after b s.now }
 {
-    if b < b'0' {
-        return false;
-    }
-    b <= b'9'
-}
-
-// The number between two places, if there is any byte between.
-fn number_between(at: usize, end: usize, value: u32) -> Number
-    ensures { result ≡ pick (leb end at) Number.Missing (Number.Read value end) }
-{
-    if end <= at {
-        return Number::Missing;
-    }
-    Number::Read { value, end }
-}
-
-// The number at a place: no leading zeros, below the limit.
-fn number_at(s: &[u8], at: usize, limit: u64) -> Number
-    requires { (at ≤ length s.now) × (limit ≤ word_limit) }
-    ensures { ReadAt (number limit) s.now at limit result }
-{
-    let mut n: u64 = 0;
-    let mut end = at;
-    while end < s.len() {
-        let b = s[end];
-        if !is_digit(b) {
-            return number_between(at, end, n as u32);
-        }
-        if at < end {
-            if n == 0 {
-                return Number::Missing;
-            }
-        }
-        n = 10 * n + (b - b'0') as u64;
-        if limit <= n {
-            return Number::Missing;
-        }
-        end += 1;
-    }
-    number_between(at, end, n as u32)
-}
-
-// A number that was read, if nothing is left behind it.
-fn wholly(s: &[u8], read: Number) -> Number
-    ensures { value_of result ≡ wholly (left_at s.now read) }
-{
-    let Number::Read { value, end } = read else {
-        return Number::Missing;
+    let [first, rest @ ..] = s else {
+        return None;
     };
-    if end < s.len() {
-        return Number::Missing;
+    if *first != b {
+        return None;
     }
-    Number::Read { value, end }
+    Some(rest)
 }
 
-// The number that all bytes from a place on write.
-fn numeral(s: &[u8], at: usize, limit: u64) -> Number
-    requires { (at ≤ length s.now) × (limit ≤ word_limit) }
-    ensures { value_of result ≡ numeral limit (drop at s.now) }
+// Whether a byte stands at the front, and the bytes behind it.
+fn optional(b: u8, s: &[u8]) -> (bool, &[u8])
+    ensures { read result.0 result.1.now ≡ optional b s.now }
 {
-    wholly(s, number_at(s, at, limit))
+    match after(b, s) {
+        Some(rest) => (true, rest),
+        None => (false, s),
+    }
 }
 
-// The AS number at a place.
-fn as_number(s: &[u8], at: usize) -> Number
-    requires { at ≤ length s.now }
-    ensures { ReadAt as_number s.now at as_limit result }
+// The bytes behind the blanks at the front.
+fn past_blanks(s: &[u8]) -> &[u8]
+    ensures { result.now ≡ (cut is_blank s.now).rest }
 {
-    number_at(s, at, AS_LIMIT)
+    octets::rest(s, token::blanks_end(s, 0))
 }
 
-// The AS number that all bytes from a place on write.
-fn as_numeral(s: &[u8], at: usize) -> Number
-    requires { at ≤ length s.now }
-    ensures { value_of result ≡ as_numeral (drop at s.now) }
+// The digit at the front.
+fn digit(s: &[u8]) -> Option<(u32, &[u8])>
+    ensures { said result ≡ digit_read s.now }
 {
-    wholly(s, as_number(s, at))
+    let [b, rest @ ..] = s else {
+        return None;
+    };
+    if !b.is_ascii_digit() {
+        return None;
+    }
+    Some(((*b - b'0') as u32, rest))
+}
+
+// The number at the front: no leading zeros, below the limit.
+fn number(s: &[u8], limit: u64) -> Option<(u32, &[u8])>
+    requires { (9 < limit) × (limit ≤ word_limit) }
+    ensures { said result ≡ number limit s.now }
+{
+    let (first, mut rest) = digit(s)?;
+    let mut n = first as u64;
+    while let Some((d, behind)) = digit(rest) {
+        if n == 0 {
+            return None;
+        }
+        n = 10 * n + d as u64;
+        if limit <= n {
+            return None;
+        }
+        rest = behind;
+    }
+    Some((n as u32, rest))
+}
+
+// What was read, if nothing is left behind it.
+fn wholly(found: Option<(u32, &[u8])>) -> Option<u32>
+    ensures { result ≡ wholly (said found.entry) }
+{
+    let (value, rest) = found?;
+    if !rest.is_empty() {
+        return None;
+    }
+    Some(value)
+}
+
+// The number that all bytes write.
+fn numeral(s: &[u8], limit: u64) -> Option<u32>
+    requires { (9 < limit) × (limit ≤ word_limit) }
+    ensures { result ≡ numeral limit s.now }
+{
+    wholly(number(s, limit))
+}
+
+// The AS number at the front.
+fn as_number(s: &[u8]) -> Option<(u32, &[u8])>
+    ensures { said result ≡ as_number s.now }
+{
+    number(s, AS_LIMIT)
+}
+
+// The AS number that all bytes write.
+fn as_numeral(s: &[u8]) -> Option<u32>
+    ensures { result ≡ as_numeral s.now }
+{
+    wholly(as_number(s))
 }
 
 // The record of a code: that of a name, or where there is none the number.
-fn code_record(kind: u32, named: Option<u32>, bytes: &[u8]) -> Meant
+fn code_record(kind: u32, named: Option<u32>, bytes: &[u8]) -> Option<Head>
     ensures { result ≡ code_meant kind (or_else named (numeral byte_limit bytes.now)) }
 {
     if let Some(code) = named {
-        return head(kind, 0, 0, code, 0);
+        return Some(lone_head(kind, 0, 0, code, 0));
     }
-    let Number::Read { value, end: _ } = numeral(bytes, 0, BYTE_LIMIT) else {
-        return Meant::Broken;
-    };
-    head(kind, 0, 0, value, 0)
+    let code = numeral(bytes, BYTE_LIMIT)?;
+    Some(lone_head(kind, 0, 0, code, 0))
 }
 
 // A part of an address and its dot.
-fn part(s: &[u8], at: usize) -> Number
-    requires { at ≤ length s.now }
-    ensures { ReadAt part_read s.now at byte_limit result }
+fn part(s: &[u8]) -> Option<(u32, &[u8])>
+    ensures { said result ≡ part_read s.now }
 {
-    let Number::Read { value, end } = number_at(s, at, BYTE_LIMIT) else {
-        return Number::Missing;
-    };
-    if s.len() <= end {
-        return Number::Missing;
-    }
-    if s[end] != b'.' {
-        return Number::Missing;
-    }
-    Number::Read {
-        value,
-        end: end + 1,
-    }
+    let (value, rest) = number(s, BYTE_LIMIT)?;
+    let rest = after(b'.', rest)?;
+    Some((value, rest))
 }
 
-fn address_at(s: &[u8], at: usize) -> AddressRead
-    requires { at ≤ length s.now }
-    ensures { AddressAt s.now at result }
+// The address at the front.
+fn address(s: &[u8]) -> Option<(u32, &[u8])>
+    ensures { said result ≡ address_read s.now }
 {
-    let Number::Read { value: a, end } = part(s, at) else {
-        return AddressRead::Missing;
-    };
-    let Number::Read { value: b, end } = part(s, end) else {
-        return AddressRead::Missing;
-    };
-    let Number::Read { value: c, end } = part(s, end) else {
-        return AddressRead::Missing;
-    };
-    let Number::Read { value: d, end } = number_at(s, end, BYTE_LIMIT) else {
-        return AddressRead::Missing;
-    };
-    AddressRead::Read {
-        address: ((a * 256 + b) * 256 + c) * 256 + d,
-        end,
-    }
+    let (a, rest) = part(s)?;
+    let (b, rest) = part(rest)?;
+    let (c, rest) = part(rest)?;
+    let (d, rest) = number(rest, BYTE_LIMIT)?;
+    Some((((a * 256 + b) * 256 + c) * 256 + d, rest))
 }
 
 fn relation_code(relation: Relation) -> u32
@@ -274,123 +220,105 @@ fn relation_code(relation: Relation) -> u32
     }
 }
 
-// The record of the network at a place, on the side of a code.
-fn network_record(bytes: &[u8], at: usize, relation: Relation, side: u32) -> Meant
-    requires { at ≤ length bytes.now }
-    ensures { (s : Side) → side_code s ≡ side → result ≡ network_meant relation s (network_read (drop at bytes.now)) }
+// The network that all bytes write.
+fn network_of(s: &[u8]) -> Option<Network>
+    ensures { network_found result ≡ network_read s.now }
 {
-    let AddressRead::Read { address, end } = address_at(bytes, at) else {
-        return Meant::Broken;
-    };
-    if bytes.len() <= end {
-        return Meant::Broken;
-    }
-    if bytes[end] != b'/' {
-        return Meant::Broken;
-    }
-    let Number::Read { value: len, end: _ } = numeral(bytes, end + 1, LENGTH_LIMIT) else {
-        return Meant::Broken;
-    };
-    let n = network::network_of(address, len);
-    head(
+    let (address, rest) = address(s)?;
+    let len = numeral(after(b'/', rest)?, LENGTH_LIMIT)?;
+    Some(network::network_of(address, len))
+}
+
+// The record of a network, on the side of a code.
+fn network_record(s: &[u8], relation: Relation, side: u32) -> Option<Head>
+    ensures { (d : Side) → side_code d ≡ side → result ≡ network_meant relation d (network_read s.now) }
+{
+    let n = network_of(s)?;
+    Some(lone_head(
         Kind::Network as u32,
         relation_code(relation),
         n.len,
         n.address,
         side,
-    )
+    ))
 }
 
 // A leading `+` means announcements, `-` withdrawals.
-fn network_operand(relation: Relation, bytes: &[u8]) -> Meant
+fn network_operand(relation: Relation, bytes: &[u8]) -> Option<Head>
     ensures { result ≡ meant_of (meaning (Name.Network relation) bytes.now) }
 {
-    let first = octets::number(bytes, 0, 1);
-    if first == PLUS {
-        return network_record(bytes, 1, relation, 1);
+    if let Some(rest) = after(b'+', bytes) {
+        return network_record(rest, relation, 1);
     }
-    if first == MINUS {
-        return network_record(bytes, 1, relation, 2);
+    if let Some(rest) = after(b'-', bytes) {
+        return network_record(rest, relation, 2);
     }
-    network_record(bytes, 0, relation, 0)
+    network_record(bytes, relation, 0)
 }
 
 // The record of a peer with an address: alone, or with blanks and an AS number behind it.
-fn peer_behind(bytes: &[u8], at: usize, address: u32) -> Meant
-    requires { at ≤ length bytes.now }
-    ensures { result ≡ peer_meant (behind_address address (drop at bytes.now)) }
+fn peer_behind(address: u32, s: &[u8]) -> Option<Head>
+    ensures { result ≡ peer_meant (behind_address address s.now) }
 {
-    if bytes.len() <= at {
-        return head(Kind::Peer as u32, 2, 0, address, 0);
-    }
-    if !token::is_blank(bytes[at]) {
-        return Meant::Broken;
-    }
-    let next = token::blanks_end(bytes, at + 1);
-    let Number::Read { value, end: _ } = as_numeral(bytes, next) else {
-        return Meant::Broken;
+    let [first, rest @ ..] = s else {
+        return Some(lone_head(Kind::Peer as u32, 2, 0, address, 0));
     };
-    head(Kind::Peer as u32, 3, 0, address, value)
+    if !token::is_blank(*first) {
+        return None;
+    }
+    let value = as_numeral(past_blanks(rest))?;
+    Some(lone_head(Kind::Peer as u32, 3, 0, address, value))
 }
 
-// The record of a peer by its AS number alone.
-fn peer_by_as(bytes: &[u8]) -> Meant
-    ensures { result ≡ peer_meant (onward (as_numeral bytes.now) (λ n. Some (by_as n))) }
-{
-    let Number::Read { value, end: _ } = as_numeral(bytes, 0) else {
-        return Meant::Broken;
-    };
-    head(Kind::Peer as u32, 1, 0, 0, value)
-}
-
-fn peer(bytes: &[u8]) -> Meant
+fn peer(bytes: &[u8]) -> Option<Head>
     ensures { result ≡ meant_of (meaning Name.Peer bytes.now) }
 {
-    let AddressRead::Read { address, end } = address_at(bytes, 0) else {
-        return peer_by_as(bytes);
-    };
-    peer_behind(bytes, end, address)
+    if let Some((address, rest)) = address(bytes) {
+        return peer_behind(address, rest);
+    }
+    let value = as_numeral(bytes)?;
+    Some(lone_head(Kind::Peer as u32, 1, 0, 0, value))
 }
 
-fn comparison(s: &[u8]) -> Sign
-    ensures { Signed s.now result }
+// The code of a comparison with `=` behind it or not, and the bytes behind both.
+fn or_equal(plain: u32, equal: u32, s: &[u8]) -> (u32, &[u8])
+    ensures { read result.0 result.1.now ≡ either_code plain equal (optional 61 s.now) }
 {
-    let first = octets::number(s, 0, 1);
-    let second = octets::number(s, 1, 1);
-    if first == EQUALS {
-        return Sign { code: 0, end: 1 };
+    match after(b'=', s) {
+        Some(rest) => (equal, rest),
+        None => (plain, s),
     }
-    if first == LESS {
-        if second == EQUALS {
-            return Sign { code: 2, end: 2 };
-        }
-        return Sign { code: 1, end: 1 };
-    }
-    if first == GREATER {
-        if second == EQUALS {
-            return Sign { code: 4, end: 2 };
-        }
-        return Sign { code: 3, end: 1 };
-    }
-    Sign { code: 0, end: 0 }
 }
 
-// The number that the digits from a place on say, with any zeros.
-fn digits(s: &[u8], at: usize) -> Number
-    requires { (at ≤ length s.now) × (length s.now ≤ at + fraction_digits) }
-    ensures { Digited s.now at result }
+// The code of the comparison at the front, and the bytes behind it.
+fn comparison(s: &[u8]) -> (u32, &[u8])
+    ensures { read result.0 result.1.now ≡ signed (comparison s.now) }
+{
+    if let Some(rest) = after(b'=', s) {
+        return (0, rest);
+    }
+    if let Some(rest) = after(b'<', s) {
+        return or_equal(1, 2, rest);
+    }
+    if let Some(rest) = after(b'>', s) {
+        return or_equal(3, 4, rest);
+    }
+    (0, s)
+}
+
+// The number that digits say, with any zeros.
+fn digits(s: &[u8]) -> Option<u32>
+    requires { length s.now ≤ fraction_digits }
+    ensures { result ≡ any_digits 0 s.now }
 {
     let mut n: u32 = 0;
-    let mut i = at;
-    while i < s.len() {
-        let b = s[i];
-        if !is_digit(b) {
-            return Number::Missing;
+    for b in s {
+        if !b.is_ascii_digit() {
+            return None;
         }
-        n = 10 * n + (b - b'0') as u32;
-        i += 1;
+        n = 10 * n + (*b - b'0') as u32;
     }
-    Number::Read { value: n, end: i }
+    Some(n)
 }
 
 // A fraction of so many digits in microseconds.
@@ -398,250 +326,169 @@ fn scaled(n: u32, digits: usize) -> u32
     requires { (digits ≤ fraction_digits) × (n < 10 ^ digits) }
     ensures { result ≡ n * 10 ^ (fraction_digits - digits) }
 {
-    let mut micros = n;
-    let mut k = digits;
-    while k < FRACTION_DIGITS {
-        micros = 10 * micros;
-        k += 1;
-    }
-    micros
+    n * 10u32.pow((FRACTION_DIGITS - digits) as u32)
 }
 
-// The microseconds of the fraction at a place: nothing, or a dot and 1 to 6 digits.
-fn fraction(s: &[u8], at: usize) -> Number
-    requires { at ≤ length s.now }
-    ensures { value_of result ≡ fraction_of (drop at s.now) }
+// The microseconds of a fraction: nothing, or a dot and 1 to 6 digits.
+fn fraction(s: &[u8]) -> Option<u32>
+    ensures { result ≡ fraction_of s.now }
 {
-    if s.len() <= at {
-        return Number::Read { value: 0, end: at };
+    if s.is_empty() {
+        return Some(0);
     }
-    if s[at] != b'.' {
-        return Number::Missing;
+    let written = after(b'.', s)?;
+    if written.is_empty() {
+        return None;
     }
-    let start = at + 1;
-    let count = s.len() - start;
-    if count < 1 {
-        return Number::Missing;
+    if FRACTION_DIGITS < written.len() {
+        return None;
     }
-    if FRACTION_DIGITS < count {
-        return Number::Missing;
-    }
-    let Number::Read { value, end } = digits(s, start) else {
-        return Number::Missing;
-    };
-    Number::Read {
-        value: scaled(value, count),
-        end,
-    }
+    let n = digits(written)?;
+    Some(scaled(n, written.len()))
 }
 
-fn time(bytes: &[u8]) -> Meant
+fn time(bytes: &[u8]) -> Option<Head>
     ensures { result ≡ meant_of (meaning Name.Time bytes.now) }
 {
-    let sign = comparison(bytes);
-    let Number::Read {
-        value: seconds,
-        end,
-    } = number_at(bytes, sign.end, SECONDS_LIMIT)
-    else {
-        return Meant::Broken;
-    };
-    let Number::Read {
-        value: micros,
-        end: _,
-    } = fraction(bytes, end)
-    else {
-        return Meant::Broken;
-    };
-    head(Kind::Time as u32, sign.code, 0, seconds, micros)
+    let (sign, rest) = comparison(bytes);
+    let (seconds, rest) = number(rest, SECONDS_LIMIT)?;
+    let micros = fraction(rest)?;
+    Some(lone_head(Kind::Time as u32, sign, 0, seconds, micros))
 }
 
-// The place after a byte that may stand at a place.
-fn optional_end(s: &[u8], at: usize, b: u8) -> usize
-    requires { at ≤ length s.now }
-    ensures { OptionalEnd b s.now at result }
+// The item at the front: an AS number, `.`, or `!` directly before a number.
+fn item(s: &[u8]) -> Option<(Item, &[u8])>
+    ensures { said result ≡ item_read s.now }
 {
-    if at == s.len() {
-        return at;
+    if let Some((n, rest)) = as_number(s) {
+        return Some((Item::Number(n), rest));
     }
-    if s[at] != b {
-        return at;
+    if let Some(rest) = after(b'.', s) {
+        return Some((Item::Any, rest));
     }
-    at + 1
+    let (n, rest) = as_number(after(b'!', s)?)?;
+    Some((Item::Other(n), rest))
 }
 
-// The item at a place: an AS number, `.`, or `!` directly before a number.
-fn item_at(s: &[u8], at: usize) -> ItemRead
-    requires { at ≤ length s.now }
-    ensures { ItemAt item_read s.now at result }
+// The community at the front that stands there by name.
+fn named_community(s: &[u8]) -> Option<(u32, &[u8])>
+    ensures { said result ≡ name_read s.now }
 {
-    let plain = as_number(s, at);
-    if let Number::Read { value, end } = plain {
-        return ItemRead::Read {
-            item: Item::Number(value),
-            end,
-        };
-    }
-    if at == s.len() {
-        return ItemRead::Missing;
-    }
-    if s[at] == b'.' {
-        return ItemRead::Read {
-            item: Item::Any,
-            end: at + 1,
-        };
-    }
-    if s[at] != b'!' {
-        return ItemRead::Missing;
-    }
-    let other = as_number(s, at + 1);
-    let Number::Read { value, end } = other else {
-        return ItemRead::Missing;
-    };
-    ItemRead::Read {
-        item: Item::Other(value),
-        end,
-    }
+    let (word, rest) = s.split_at(token::letters_end(s, 0));
+    let community = communities::named(word)?;
+    Some((community, rest))
 }
 
-// The community at a place that stands there by name.
-fn named_community(s: &[u8], at: usize) -> Number
-    requires { at ≤ length s.now }
-    ensures { ReadAt name_read s.now at word_limit result }
+// The community at the front that stands there in its halves.
+fn halves(s: &[u8]) -> Option<(u32, &[u8])>
+    ensures { said result ≡ halves_read s.now }
 {
-    let end = token::letters_end(s, at);
-    let Some(value) = communities::named(&s[at..end]) else {
-        return Number::Missing;
-    };
-    Number::Read { value, end }
+    let (n, rest) = number(s, HALF_LIMIT)?;
+    let (m, rest) = number(after(b':', rest)?, HALF_LIMIT)?;
+    Some((n * communities::HALF_LIMIT + m, rest))
 }
 
-// The community at a place that stands there in its halves.
-fn halves(s: &[u8], at: usize) -> Number
-    requires { at ≤ length s.now }
-    ensures { ReadAt halves_read s.now at word_limit result }
+// The community at the front: a name, or two halves with a colon between.
+fn community(s: &[u8]) -> Option<(u32, &[u8])>
+    ensures { said result ≡ community_read s.now }
 {
-    let Number::Read { value: n, end } = number_at(s, at, HALF_LIMIT) else {
-        return Number::Missing;
-    };
-    if s.len() <= end {
-        return Number::Missing;
+    if let Some(found) = named_community(s) {
+        return Some(found);
     }
-    if s[end] != b':' {
-        return Number::Missing;
-    }
-    let Number::Read { value: m, end } = number_at(s, end + 1, HALF_LIMIT) else {
-        return Number::Missing;
-    };
-    Number::Read {
-        value: n * communities::HALF_LIMIT + m,
-        end,
-    }
+    halves(s)
 }
 
-// The community at a place: a name, or two halves with a colon between.
-fn community_at(s: &[u8], at: usize) -> Number
-    requires { at ≤ length s.now }
-    ensures { ReadAt community_read s.now at word_limit result }
+// One of a list at the front: a community is a number.
+fn one_listed(list: Listed, s: &[u8]) -> Option<(Item, &[u8])>
+    ensures { said result ≡ listed_read list s.now }
 {
-    let named = named_community(s, at);
-    let Number::Read { value, end } = named else {
-        return halves(s, at);
-    };
-    Number::Read { value, end }
-}
-
-// One of a list at a place: a community is a number.
-fn listed_at(list: Listed, s: &[u8], at: usize) -> ItemRead
-    requires { at ≤ length s.now }
-    ensures { ItemAt (listed_read list) s.now at result }
-{
-    let Listed::Communities = list else {
-        return item_at(s, at);
-    };
-    let Number::Read { value, end } = community_at(s, at) else {
-        return ItemRead::Missing;
-    };
-    ItemRead::Read {
-        item: Item::Number(value),
-        end,
-    }
-}
-
-// Counts those of a list from a place on, as far as they are parted by blanks.
-fn items_at(list: Listed, s: &[u8], at: usize) -> Items
-    requires { (at ≤ length s.now) × (length s.now ≤ text_limit) }
-    ensures { PartedAt (listed_read list) s.now at result }
-{
-    let mut count: u32 = 0;
-    let mut next = at;
-    loop {
-        let read = listed_at(list, s, next);
-        let ItemRead::Read { item: _, end } = read else {
-            return Items { count, end: next };
-        };
-        count += 1;
-        next = token::blanks_end(s, end);
-        if next == end {
-            return Items { count, end: next };
+    match list {
+        Listed::Items => item(s),
+        Listed::Communities => {
+            let (value, rest) = community(s)?;
+            Some((Item::Number(value), rest))
         }
     }
 }
 
-// The pattern of an operand: whether `^` and `$` stand and how many items.
-fn pattern(bytes: &[u8]) -> Meant
-    requires { length bytes.now ≤ text_limit }
-    ensures { result ≡ meant_of (meaning Name.Path bytes.now) }
+// Counts those of a list at the front, as far as they are parted by blanks; and the bytes behind them and blanks.
+fn count_listed(list: Listed, s: &[u8]) -> (u32, &[u8])
+    requires { length s.now ≤ text_limit }
+    ensures count_is { result.0 ≡ length (all_parted (listed_read list) s.now).value }
+    ensures left { result.1.now ≡ (all_parted (listed_read list) s.now).rest }
 {
-    let start = token::blanks_end(bytes, 0);
-    let caret = optional_end(bytes, start, b'^');
-    let items = items_at(Listed::Items, bytes, token::blanks_end(bytes, caret));
-    let end = items.end;
-    let dollar = optional_end(bytes, end, b'$');
-    if token::blanks_end(bytes, dollar) != bytes.len() {
-        return Meant::Broken;
+    let mut count: u32 = 0;
+    let mut rest = s;
+    while let Some((_, behind)) = one_listed(list, rest) {
+        count += 1;
+        rest = past_blanks(behind);
+        if rest.len() == behind.len() {
+            return (count, rest);
+        }
     }
-    let variant = (caret - start) as u32 + 2 * ((dollar - end) as u32);
-    if variant + items.count == 0 {
-        return Meant::Broken;
-    }
-    Meant::Head {
-        fields: Fields {
-            kind: Kind::Path as u32,
-            variant,
-            count: items.count,
-            a: 0,
-            b: 0,
-        },
-        following: items.count,
+    (count, rest)
+}
+
+// Whether `^` stands at the front of a pattern, and the bytes behind it and blanks.
+fn opened(bytes: &[u8]) -> (bool, &[u8])
+    ensures starts { result.0 ≡ (pattern_opened bytes.now).value }
+    ensures left { result.1.now ≡ (cut is_blank (pattern_opened bytes.now).rest).rest }
+{
+    let (caret, rest) = optional(b'^', past_blanks(bytes));
+    (caret, past_blanks(rest))
+}
+
+// A head that so many records follow.
+fn list_head(kind: u32, variant: u32, count: u32) -> Head
+    ensures { result ≡ record { fields = fields kind variant count 0 0; following = count } }
+{
+    Head {
+        following: count,
+        ..lone_head(kind, variant, count, 0, 0)
     }
 }
 
+// The variant of a pattern with `^` and `$` or not.
+fn ends_code(start: bool, end: bool) -> u32
+    ensures { result ≡ ends_code start end }
+{
+    start as u32 + 2 * (end as u32)
+}
+
+// The pattern of an operand: whether `^` and `$` stand and how many items.
+fn pattern(bytes: &[u8]) -> Option<Head>
+    requires { length bytes.now ≤ text_limit }
+    ensures { result ≡ meant_of (meaning Name.Path bytes.now) }
+{
+    let (caret, rest) = opened(bytes);
+    let (count, rest) = count_listed(Listed::Items, rest);
+    let (dollar, rest) = optional(b'$', rest);
+    if !past_blanks(rest).is_empty() {
+        return None;
+    }
+    let variant = ends_code(caret, dollar);
+    if variant + count == 0 {
+        return None;
+    }
+    Some(list_head(Kind::Path as u32, variant, count))
+}
+
 // The communities of an operand: how many.
-fn communities_operand(bytes: &[u8]) -> Meant
+fn communities_operand(bytes: &[u8]) -> Option<Head>
     requires { length bytes.now ≤ text_limit }
     ensures { result ≡ meant_of (meaning Name.Communities bytes.now) }
 {
-    let items = items_at(Listed::Communities, bytes, 0);
-    if items.count == 0 {
-        return Meant::Broken;
+    let (count, rest) = count_listed(Listed::Communities, bytes);
+    if count == 0 {
+        return None;
     }
-    if items.end != bytes.len() {
-        return Meant::Broken;
+    if !rest.is_empty() {
+        return None;
     }
     if token::is_blank(bytes[bytes.len() - 1]) {
-        return Meant::Broken;
+        return None;
     }
-    Meant::Head {
-        fields: Fields {
-            kind: Kind::Communities as u32,
-            variant: 0,
-            count: items.count,
-            a: 0,
-            b: 0,
-        },
-        following: items.count,
-    }
+    Some(list_head(Kind::Communities as u32, 0, count))
 }
 
 // The fields of an item's record.
@@ -649,92 +496,53 @@ fn item_fields(i: Item) -> Fields
     ensures { result ≡ fields_of (item i) }
 {
     match i {
-        Item::Number(n) => Fields {
-            kind: Kind::Item as u32,
-            variant: 0,
-            count: 0,
-            a: n,
-            b: 0,
-        },
-        Item::Other(n) => Fields {
-            kind: Kind::Item as u32,
-            variant: 1,
-            count: 0,
-            a: n,
-            b: 0,
-        },
-        Item::Any => Fields {
-            kind: Kind::Item as u32,
-            variant: 2,
-            count: 0,
-            a: 0,
-            b: 0,
-        },
+        Item::Number(n) => lone_head(Kind::Item as u32, 0, 0, n, 0).fields,
+        Item::Other(n) => lone_head(Kind::Item as u32, 1, 0, n, 0).fields,
+        Item::Any => lone_head(Kind::Item as u32, 2, 0, 0, 0).fields,
     }
 }
 
-// Writes the records of those of a list from a place on, one after another, and answers the place after them.
-fn put_items_from(list: Listed, bytes: &[u8], start: usize, out: &mut [u8], at: usize) -> usize
-    requires { start ≤ length bytes.now }
-    ensures { Written out.old at (encode_all (listed_records list (drop start bytes.now))) out.new result }
+// The list of an operand, if its test has one, and the bytes from its first on.
+fn list_of(name: Name, bytes: &[u8]) -> Option<(Listed, &[u8])>
+    requires { length bytes.now ≤ text_limit }
+    ensures { list_records result ≡ following_meant (meaning name bytes.now) }
+{
+    match name {
+        Name::Path => {
+            pattern(bytes)?;
+            let (_, items) = opened(bytes);
+            Some((Listed::Items, items))
+        }
+        Name::Communities => {
+            communities_operand(bytes)?;
+            Some((Listed::Communities, bytes))
+        }
+        _ => None,
+    }
+}
+
+// Writes the records of those of a list, one after another, and answers the place after them.
+fn put_listed(list: Listed, s: &[u8], out: &mut [u8], at: usize) -> usize
+    ensures { Written out.old at (encode_all (listed_records list s.now)) out.new result }
 {
     let mut place = at;
-    let mut p = start;
-    loop {
-        let read = listed_at(list, bytes, p);
-        let ItemRead::Read { item, end } = read else {
-            return place;
-        };
-        place = program::put_record(out, place, item_fields(item));
-        p = token::blanks_end(bytes, end);
-        if p == end {
+    let mut rest = s;
+    while let Some((found, behind)) = one_listed(list, rest) {
+        place = program::put_record(out, place, item_fields(found));
+        rest = past_blanks(behind);
+        if rest.len() == behind.len() {
             return place;
         }
     }
+    place
 }
 
-// Writes the records of the items of a pattern; of none where the operand is no pattern.
-fn put_pattern_items(bytes: &[u8], out: &mut [u8], at: usize) -> usize
-    requires { length bytes.now ≤ text_limit }
-    ensures { Written out.old at (encode_all (following_meant (meaning Name.Path bytes.now))) out.new result }
-{
-    let meant = pattern(bytes);
-    let Meant::Head {
-        fields: _,
-        following: _,
-    } = meant
-    else {
-        return at;
-    };
-    let start = token::blanks_end(bytes, 0);
-    let caret = optional_end(bytes, start, b'^');
-    let first = token::blanks_end(bytes, caret);
-    put_items_from(Listed::Items, bytes, first, out, at)
-}
-
-// Writes the records of communities; none where the operand is none.
-fn put_communities(bytes: &[u8], out: &mut [u8], at: usize) -> usize
-    requires { length bytes.now ≤ text_limit }
-    ensures { Written out.old at
-        (encode_all (following_meant (meaning Name.Communities bytes.now))) out.new result }
-{
-    let meant = communities_operand(bytes);
-    let Meant::Head {
-        fields: _,
-        following: _,
-    } = meant
-    else {
-        return at;
-    };
-    put_items_from(Listed::Communities, bytes, 0, out, at)
-}
-
-// What an operand of a test stands for.
-pub fn meaning(name: Name, bytes: &[u8]) -> Meant
+// What an operand of a test stands for; nothing where it breaks the test's rule.
+pub fn meaning(name: Name, bytes: &[u8]) -> Option<Head>
     ensures { result ≡ meant_of (operand_meaning name bytes.now) }
 {
     if token::TEXT_LIMIT < bytes.len() {
-        return Meant::Broken;
+        return None;
     }
     match name {
         Name::MessageType => code_record(Kind::MessageType as u32, names::type_named(bytes), bytes),
@@ -758,9 +566,8 @@ pub fn put_items(name: Name, bytes: &[u8], out: &mut [u8], at: usize) -> usize
     if token::TEXT_LIMIT < bytes.len() {
         return at;
     }
-    match name {
-        Name::Path => put_pattern_items(bytes, out, at),
-        Name::Communities => put_communities(bytes, out, at),
-        _ => at,
-    }
+    let Some((list, s)) = list_of(name, bytes) else {
+        return at;
+    };
+    put_listed(list, s, out, at)
 }

@@ -30,31 +30,6 @@ use program::{Fields, Kind};
 // A second in microseconds, as times are compared.
 const SECOND: u64 = program::SECOND as u64;
 
-// The variants of a peer.
-const BY_AS: u32 = 1;
-
-const BY_ADDRESS: u32 = 2;
-
-const BY_BOTH: u32 = 3;
-
-// The variants of a time.
-const EQUAL: u32 = 0;
-
-const BELOW: u32 = 1;
-
-const AT_MOST: u32 = 2;
-
-const ABOVE: u32 = 3;
-
-const AT_LEAST: u32 = 4;
-
-// The sides of a network, in B.
-const EITHER: u32 = 0;
-
-const ANNOUNCED: u32 = 1;
-
-const WITHDRAWN: u32 = 2;
-
 // Whether an attribute of a section has a code, which is one byte.
 fn has_code(section: &[u8], code: u32) -> bool
     ensures { result ≡ elem code (codes (raws_of section.now)) }
@@ -69,9 +44,9 @@ fn same_peer(f: Fields, address: u32, number: u32) -> bool
     ensures { result ≡ peer_test f address number }
 {
     match f.variant {
-        BY_AS => number == f.b,
-        BY_ADDRESS => address == f.a,
-        BY_BOTH => address == f.a && number == f.b,
+        program::BY_AS => number == f.b,
+        program::BY_ADDRESS => address == f.a,
+        program::BY_BOTH => address == f.a && number == f.b,
         _ => false,
     }
 }
@@ -90,11 +65,11 @@ fn in_time(f: Fields, seconds: u32) -> bool
     let time = micros(seconds, 0);
     let operand = micros(f.a, f.b);
     match f.variant {
-        EQUAL => time == operand,
-        BELOW => time < operand,
-        AT_MOST => time <= operand,
-        ABOVE => operand < time,
-        AT_LEAST => operand <= time,
+        program::EQUAL => time == operand,
+        program::BELOW => time < operand,
+        program::AT_MOST => time <= operand,
+        program::ABOVE => operand < time,
+        program::AT_LEAST => operand <= time,
         _ => false,
     }
 }
@@ -132,10 +107,10 @@ fn has_prefix(f: Fields, record: &[u8], parts: Parts) -> bool
     let announced = message::part_of(record, parts.announced);
     let withdrawn = message::part_of(record, parts.withdrawn);
     match f.b {
-        EITHER => some_prefix(announced, relation, operand)
+        program::EITHER => some_prefix(announced, relation, operand)
             || some_prefix(withdrawn, relation, operand),
-        ANNOUNCED => some_prefix(announced, relation, operand),
-        WITHDRAWN => some_prefix(withdrawn, relation, operand),
+        program::ANNOUNCED => some_prefix(announced, relation, operand),
+        program::WITHDRAWN => some_prefix(withdrawn, relation, operand),
         _ => false,
     }
 }

@@ -4,4 +4,4 @@ use Rattle.operand.proofs.as_number.Goals as goal
 
 pub returns : goal.returns
 unfolding as_number
-returns c = c.number_at.ensures
+returns c = c.number.ensures

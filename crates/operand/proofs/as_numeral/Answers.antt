@@ -6,4 +6,4 @@ use Rattle.operand.proofs.as_numeral.Goals as goal
 
 pub returns : goal.returns
 unfolding as_numeral
-returns c = c.wholly.ensures ∙ ap wholly c.as_number.ensures.said
+returns c = c.wholly.ensures ∙ ap wholly c.as_number.ensures

@@ -1,91 +1,54 @@
--- `operand::comparison` meets its contract, by the first two bytes. Assumes nothing.
-use native.Mathlib.Omega.{arith}
-use borrow.Author.Tests.{eq-eqb, ne_eqb}
-use mathlib.Core.Path.{◌≡◌, sym, ◌∙◌}
-use lib.ListN.{get_or, drop}
-use lib.Seq.{get_or-drop, drop-drop}
-use Rattle.octets.proofs.Numbers.{number_one}
-use Rattle.program.specs.Readings.{equal, below, at_most, above, at_least}
-use Rattle.operand.specs.Fronts.{read}
-use Rattle.operand.specs.Times.{comparison}
-use Rattle.operand.proofs.Places.{within_of}
+-- `operand::comparison` meets its contract, by the first byte. Assumes nothing.
+use Prim.Native.Nat.{ℕ}
+use mathlib.Core.Path.{◌≡◌, refl, sym, ap, ◌∙◌}
+use mathlib.Core.Bool.{Bool, true, false}
+use mathlib.Core.List.{List, [], ◌∷◌}
+use Rattle.std.specs.Prelude.{Some, None}
+use lib.Dec.{eqb}
+use Rattle.octets.specs.Choice.{pick}
+use Rattle.program.specs.Readings.{Comparison, below, at_most, above, at_least}
+use Rattle.program.specs.Layout.{comparison_code}
+use Rattle.operand.specs.Fronts.{read, after, optional, chosen}
+use Rattle.operand.specs.Times.{or_equal, comparison, signed, either_code}
+use Rattle.operand.proofs.Said.{left_none, left_some, front_taken, front_other}
 use Rattle.operand.proofs.comparison.Goals as goal
 
-pub returns-then-first-eq-EQUALS : goal.returns-then-first-eq-EQUALS
-unfolding comparison
-returns-then-first-eq-EQUALS c = let s = c.args.s.now in
-    let x : get_or s 0 0 ≡ c.number-first.result = sym (c.number-first.ensures ∙ number_one s 0) in
-    let e : comparison s ≡ read equal (drop 1 s) = rw (x, eq-eqb c.number-first.result 61 c.if-first-eq-EQUALS.true) in
-    record { code = rw e; rest = rw e; within = omega (arith, within_of s 0 (omega arith)) }
+-- one of two by `=`
+equal_or : (c d : Comparison) (l : List ℕ) → either_code (comparison_code c) (comparison_code d) (optional 61 l) ≡ signed (or_equal c d l)
+unfolding optional after
+equal_or c d [] = refl
+equal_or c d (x ∷ xs) = go (eqb x 61)
+  where
+    go : (t : Bool) → either_code (comparison_code c) (comparison_code d) (chosen (x ∷ xs) (pick t (Some xs) None)) ≡ signed (pick t (read d xs) (read c (x ∷ xs)))
+    go true = refl
+    go false = refl
 
-pub returns-then-second-eq-EQUALS : goal.returns-then-second-eq-EQUALS
+pub returns-in-Some : goal.returns-in-Some
 unfolding comparison
-returns-then-second-eq-EQUALS c = let s = c.args.s.now in
-    let x : get_or s 0 0 ≡ c.number-first.result = sym (c.number-first.ensures ∙ number_one s 0) in
-    let y : get_or (drop 1 s) 0 0 ≡ c.number-second.result = get_or-drop 1 s 0 0 ∙ sym (c.number-second.ensures ∙ number_one s 1) in
-    let e : comparison s ≡ read at_most (drop 2 s) = rw (
-      x,
-      ne_eqb c.number-first.result 61 c.if-first-eq-EQUALS.false,
-      eq-eqb c.number-first.result 60 c.if-first-eq-LESS.true,
-      y,
-      eq-eqb c.number-second.result 61 c.if-second-eq-EQUALS.true,
-      drop-drop 1 1 s,
-    ) in
-    record { code = rw e; rest = rw e; within = omega (arith, within_of s 1 (omega (arith, get_or-drop 1 s 0 0))) }
+returns-in-Some c = let t = front_taken 61 c.args.s.now (left_some c.after.ensures c.in-Some.is) in rw (t.0, t.1)
 
-pub returns-then-first-eq-LESS : goal.returns-then-first-eq-LESS
+pub returns-in-Some-after : goal.returns-in-Some-after
 unfolding comparison
-returns-then-first-eq-LESS c = let s = c.args.s.now in
-    let x : get_or s 0 0 ≡ c.number-first.result = sym (c.number-first.ensures ∙ number_one s 0) in
-    let y : get_or (drop 1 s) 0 0 ≡ c.number-second.result = get_or-drop 1 s 0 0 ∙ sym (c.number-second.ensures ∙ number_one s 1) in
-    let e : comparison s ≡ read below (drop 1 s) = rw (
-      x,
-      ne_eqb c.number-first.result 61 c.if-first-eq-EQUALS.false,
-      eq-eqb c.number-first.result 60 c.if-first-eq-LESS.true,
-      y,
-      ne_eqb c.number-second.result 61 c.if-second-eq-EQUALS.false,
-    ) in
-    record { code = rw e; rest = rw e; within = omega (arith, within_of s 0 (omega arith)) }
+returns-in-Some-after c = let s = c.args.s.now in
+    let t = front_taken 60 s (left_some c.after-2.ensures c.in-Some-after.is) in
+    rw (front_other 61 s refl (left_none c.after.ensures c.in_default.is), t.0, t.1) (c.or_equal.ensures ∙ equal_or below at_most _)
 
-pub returns-then-second-eq-EQUALS-2 : goal.returns-then-second-eq-EQUALS-2
+pub returns-in-Some-after-2 : goal.returns-in-Some-after-2
 unfolding comparison
-returns-then-second-eq-EQUALS-2 c = let s = c.args.s.now in
-    let x : get_or s 0 0 ≡ c.number-first.result = sym (c.number-first.ensures ∙ number_one s 0) in
-    let y : get_or (drop 1 s) 0 0 ≡ c.number-second.result = get_or-drop 1 s 0 0 ∙ sym (c.number-second.ensures ∙ number_one s 1) in
-    let e : comparison s ≡ read at_least (drop 2 s) = rw (
-      x,
-      ne_eqb c.number-first.result 61 c.if-first-eq-EQUALS.false,
-      ne_eqb c.number-first.result 60 c.if-first-eq-LESS.false,
-      eq-eqb c.number-first.result 62 c.if-first-eq-GREATER.true,
-      y,
-      eq-eqb c.number-second.result 61 c.if-second-eq-EQUALS-2.true,
-      drop-drop 1 1 s,
-    ) in
-    record { code = rw e; rest = rw e; within = omega (arith, within_of s 1 (omega (arith, get_or-drop 1 s 0 0))) }
-
-pub returns-then-first-eq-GREATER : goal.returns-then-first-eq-GREATER
-unfolding comparison
-returns-then-first-eq-GREATER c = let s = c.args.s.now in
-    let x : get_or s 0 0 ≡ c.number-first.result = sym (c.number-first.ensures ∙ number_one s 0) in
-    let y : get_or (drop 1 s) 0 0 ≡ c.number-second.result = get_or-drop 1 s 0 0 ∙ sym (c.number-second.ensures ∙ number_one s 1) in
-    let e : comparison s ≡ read above (drop 1 s) = rw (
-      x,
-      ne_eqb c.number-first.result 61 c.if-first-eq-EQUALS.false,
-      ne_eqb c.number-first.result 60 c.if-first-eq-LESS.false,
-      eq-eqb c.number-first.result 62 c.if-first-eq-GREATER.true,
-      y,
-      ne_eqb c.number-second.result 61 c.if-second-eq-EQUALS-2.false,
-    ) in
-    record { code = rw e; rest = rw e; within = omega (arith, within_of s 0 (omega arith)) }
+returns-in-Some-after-2 c = let s = c.args.s.now in
+    let t = front_taken 62 s (left_some c.after-3.ensures c.in-Some-after-2.is) in
+    rw (
+      front_other 61 s refl (left_none c.after.ensures c.in_default.is),
+      front_other 60 s refl (left_none c.after-2.ensures c.in_default-after.is),
+      t.0,
+      t.1,
+    ) (c.or_equal-in-Some-after-2.ensures ∙ equal_or above at_least _)
 
 pub returns : goal.returns
 unfolding comparison
 returns c = let s = c.args.s.now in
-    let x : get_or s 0 0 ≡ c.number-first.result = sym (c.number-first.ensures ∙ number_one s 0) in
-    let e : comparison s ≡ read equal (drop 0 s) = rw (
-      x,
-      ne_eqb c.number-first.result 61 c.if-first-eq-EQUALS.false,
-      ne_eqb c.number-first.result 60 c.if-first-eq-LESS.false,
-      ne_eqb c.number-first.result 62 c.if-first-eq-GREATER.false,
-    ) in
-    record { code = rw e; rest = rw e; within = omega arith }
+    rw (
+      front_other 61 s refl (left_none c.after.ensures c.in_default.is),
+      front_other 60 s refl (left_none c.after-2.ensures c.in_default-after.is),
+      front_other 62 s refl (left_none c.after-3.ensures c.in_default-after-2.is),
+    )

@@ -1,17 +1,13 @@
 -- `operand::network_operand` meets its contract, by the first byte. Assumes nothing.
-use native.Mathlib.Omega.{arith}
-use borrow.Author.Tests.{eq-eqb, ne_eqb}
-use mathlib.Core.Path.{◌≡◌, refl, sym, ◌∙◌}
+use mathlib.Core.Path.{◌≡◌, refl}
 use Rattle.std.specs.Prelude.{Option, None, Some}
-use lib.ListN.{get_or, drop}
-use Rattle.octets.proofs.Numbers.{number_one}
 use Rattle.network.specs.Networks.{Network}
 use Rattle.network.specs.declared.Relation.{Relation}
 use Rattle.program.specs.Readings.{Side, either_side, announced, withdrawn, network_is}
 use Rattle.octets.specs.Choice.{onward}
 use Rattle.operand.specs.Addresses.{network_read, sided, network_operand}
 use Rattle.operand.specs.Tests.{meaning, meant_of, network_meant}
-use Rattle.operand.proofs.Places.{within_of}
+use Rattle.operand.proofs.Said.{left_none, left_some, front_taken, front_other}
 use Rattle.operand.proofs.network_operand.Goals as goal
 
 -- a network on a side is the test of that side
@@ -20,41 +16,28 @@ on_side : (r : Relation) (side : Side) (o : Option Network) → network_meant r 
 on_side r side None = refl
 on_side r side (Some n) = refl
 
-pub network_record-requires : goal.network_record-requires
-network_record-requires c = let s = c.args.bytes.now in
-    let x : get_or s 0 0 ≡ c.number-first.result = sym (c.number-first.ensures ∙ number_one s 0) in
-    omega (arith, within_of s 0 (omega arith))
-
-pub returns-then-first-eq-PLUS : goal.returns-then-first-eq-PLUS
+pub returns-in-Some : goal.returns-in-Some
 unfolding meaning network_operand
-returns-then-first-eq-PLUS c = let s = c.args.bytes.now in
-    let x : get_or s 0 0 ≡ c.number-first.result = sym (c.number-first.ensures ∙ number_one s 0) in
-    rw (c.network_record.ensures announced refl, x, eq-eqb c.number-first.result 43 c.if-first-eq-PLUS.true)
-    (on_side _ announced (network_read (drop 1 s)))
+returns-in-Some c = let s = c.args.bytes.now in
+    let t = front_taken 43 s (left_some c.after.ensures c.in-Some.is) in
+    rw (c.network_record.ensures announced refl, t.0, t.1) (on_side _ announced (network_read c.in-Some.rest.now))
 
-pub network_record-requires-then-first-eq-MINUS : goal.network_record-requires-then-first-eq-MINUS
-network_record-requires-then-first-eq-MINUS c = let s = c.args.bytes.now in
-    let x : get_or s 0 0 ≡ c.number-first.result = sym (c.number-first.ensures ∙ number_one s 0) in
-    omega (arith, within_of s 0 (omega arith))
-
-pub returns-then-first-eq-MINUS : goal.returns-then-first-eq-MINUS
+pub returns-in-Some-after : goal.returns-in-Some-after
 unfolding meaning network_operand
-returns-then-first-eq-MINUS c = let s = c.args.bytes.now in
-    let x : get_or s 0 0 ≡ c.number-first.result = sym (c.number-first.ensures ∙ number_one s 0) in
+returns-in-Some-after c = let s = c.args.bytes.now in
+    let t = front_taken 45 s (left_some c.after-2.ensures c.in-Some-after.is) in
     rw (
-      c.network_record-then-first-eq-MINUS.ensures withdrawn refl,
-      x,
-      ne_eqb c.number-first.result 43 c.if-first-eq-PLUS.false,
-      eq-eqb c.number-first.result 45 c.if-first-eq-MINUS.true,
-    ) (on_side _ withdrawn (network_read (drop 1 s)))
+      c.network_record-in-Some-after.ensures withdrawn refl,
+      front_other 43 s refl (left_none c.after.ensures c.in_default.is),
+      t.0,
+      t.1,
+    ) (on_side _ withdrawn (network_read c.in-Some-after.rest.now))
 
 pub returns : goal.returns
 unfolding meaning network_operand
 returns c = let s = c.args.bytes.now in
-    let x : get_or s 0 0 ≡ c.number-first.result = sym (c.number-first.ensures ∙ number_one s 0) in
     rw (
       c.network_record-2.ensures either_side refl,
-      x,
-      ne_eqb c.number-first.result 43 c.if-first-eq-PLUS.false,
-      ne_eqb c.number-first.result 45 c.if-first-eq-MINUS.false,
+      front_other 43 s refl (left_none c.after.ensures c.in_default.is),
+      front_other 45 s refl (left_none c.after-2.ensures c.in_default-after.is),
     ) (on_side _ either_side (network_read s))

@@ -6,4 +6,4 @@ use Rattle.operand.proofs.numeral.Goals as goal
 
 pub returns : goal.returns
 unfolding numeral
-returns c = c.wholly.ensures ∙ ap wholly c.number_at.ensures.said
+returns c = c.wholly.ensures ∙ ap wholly c.number.ensures

@@ -1,37 +1,17 @@
 -- `operand::part` meets its contract: a number, then its dot. Assumes nothing.
-use native.Mathlib.Omega.{arith}
-use Prim.Native.Nat.{◌+◌}
-use Rattle.operand.specs.Decimals.{byte_limit}
 use Rattle.operand.specs.Addresses.{part_read}
-use Rattle.operand.proofs.Places.{after_here, after_other, after_end}
-use Rattle.operand.proofs.Numbers.{said_none, said_some, read_none, read_some}
+use Rattle.operand.proofs.Said.{said_none, said_some, left_none, left_some}
 use Rattle.operand.proofs.part.Goals as goal
 
-pub returns-in_default : goal.returns-in_default
+pub returns-in_err-value : goal.returns-in_err-value
 unfolding part_read
-returns-in_default c = let a = c.args in
-    let s = a.s.now in
-    read_none part_read s a.at byte_limit (rw (said_none s c.number_at.ensures.said c.in_default.is))
+returns-in_err-value c = rw (c.from_residual.ensures, said_none c.number.ensures c.in_err-value.was)
 
-pub returns-then-s-end : goal.returns-then-s-end
+pub returns-in_err-rest : goal.returns-in_err-rest
 unfolding part_read
-returns-then-s-end c = let a = c.args in
-    let s = a.s.now in
-    read_none part_read s a.at byte_limit (rw (said_some s c.number_at.ensures.said c.in-Read.is, after_end s c.in-Read.end 46 c.if-s-end.true))
-
-pub returns-then-s-end-ne46 : goal.returns-then-s-end-ne46
-unfolding part_read
-returns-then-s-end-ne46 c = let a = c.args in
-    let s = a.s.now in
-    read_none part_read s a.at byte_limit (rw (
-      said_some s c.number_at.ensures.said c.in-Read.is,
-      after_other s c.in-Read.end 46 c.if-s-end.false c.if-s-end-ne46.true,
-    ))
+returns-in_err-rest c =
+    rw (c.from_residual-in_err-rest.ensures, said_some c.number.ensures c.in_ok-value.was, left_none c.after.ensures c.in_err-rest.was)
 
 pub returns : goal.returns
 unfolding part_read
-returns c = let a = c.args in
-    let s = a.s.now in
-    let b = c.number_at.ensures.ends c.in-Read.value c.in-Read.end c.in-Read.is in
-    read_some part_read s a.at byte_limit c.in-Read.value (c.in-Read.end + 1)
-    (rw (said_some s c.number_at.ensures.said c.in-Read.is, after_here s c.in-Read.end 46 c.if-s-end.false c.if-s-end-ne46.false)) (omega arith) b.1
+returns c = rw (said_some c.number.ensures c.in_ok-value.was, left_some c.after.ensures c.in_ok-rest.was)
