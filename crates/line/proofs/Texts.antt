@@ -10,6 +10,9 @@ use Rattle.octets.specs.Writes.{last_place, Written}
 use Rattle.octets.specs.Rows.{items}
 use Rattle.octets.proofs.Rows.{Sizes, items_next, items_end}
 use Rattle.octets.proofs.Writes.{up_to_in, up_to_out, both, nothing, kept, Midst, starts, moves, ends}
+use Rattle.std.specs.Prelude.{Option, Some, None}
+use Rattle.std.specs.Iterator.{YieldsFirstBy}
+use Rattle.line.specs.Field.{Gives}
 use Rattle.line.specs.Text.{following, separated}
 
 -- ---- the texts of items
@@ -67,3 +70,9 @@ module _ (separator : ℕ) {texts : List (List ℕ)} where
       → Written old at (separated separator texts) now r
   unfolding following separated
   all_written first more e f w m = rw e (both first (following separator more) w (ends (rw f at m)))
+
+-- an iterator over what stands for others gives the texts of those
+pub texts_given : {S A B : Type 0} (view : A → B) (rest : S → List B) (text : B → List ℕ)
+    → Gives (YieldsFirstBy view rest) (λ a. text (view a)) (λ s. map text (rest s))
+texts_given view rest text s None after h = (ap (map text) h.0, ap (map text) h.1)
+texts_given view rest text s (Some a) after h = ap (map text) h

@@ -12,8 +12,9 @@ ghost use Rattle.communities.specs.Communities.{communities_of};
 ghost use Rattle.attributes.specs.Bodies.{aggregator_of, attributes_of};
 ghost use Rattle.attributes.specs.Finding.{body_at, find_of};
 ghost use Rattle.message.specs.Decode.{networks_of, message_at};
-ghost use Rattle.line.specs.Field.{Writes};
-ghost use Rattle.line.specs.Text.{bar, separated, following, optional, prefixes_text, segment_text, path_text, communities_text};
+ghost use Rattle.std.specs.Iterator.{IsFinite};
+ghost use Rattle.line.specs.Field.{Gives, Writes};
+ghost use Rattle.line.specs.Text.{space, bar, separated, following, optional, prefixes_text, segment_text, path_text, communities_text};
 ghost use Rattle.line.specs.Line.{origin_text, atomic_text, aggregator_text};
 ghost use Rattle.line.specs.Line.{width_text, attribute_fields, closing_fields, line_of, lines_of};
 ghost use Rattle.line.specs.Answer.{is_ample, writing_of, writing};
@@ -30,20 +31,35 @@ pub const LINE_ROOM: usize = 65536;
 #[derive(Clone, Copy, Debug, PartialEq, Eq)]
 pub struct Short;
 
+// What a writer makes of each item of an iterator, with spaces between.
+fn put_spaced<I: Iterator, F: Fn(&mut [u8], usize, I::Item) -> usize>(
+    out: &mut [u8],
+    at: usize,
+    mut items: I,
+    put_item: F,
+) -> usize
+    requires can { I.can_next items }
+    requires ends { IsFinite (I.remaining items) }
+    requires calls { F.IsAlwaysCallable put_item }
+    ensures { (text : _ → List ℕ) (left : _ → List (List ℕ)) → Gives I.next_gives text left → Writes (F.post put_item) text
+        → Written out.old at (separated space (left items)) out.new result }
+{
+    let Some(first) = items.next() else {
+        return at;
+    };
+    let mut place = put_item(out, at, first);
+    for item in items {
+        place = octets::put(out, place, b' ');
+        place = put_item(out, place, item);
+    }
+    place
+}
+
 // The prefixes of a section with spaces between.
 fn put_prefixes(out: &mut [u8], at: usize, s: &[u8]) -> usize
     ensures { Written out.old at (prefixes_text (networks_of s.now)) out.new result }
 {
-    let mut networks = Networks(s);
-    let Some(first) = networks.next() else {
-        return at;
-    };
-    let mut place = network::put_network(out, at, first);
-    for n in networks {
-        place = octets::put(out, place, b' ');
-        place = network::put_network(out, place, n);
-    }
-    place
+    put_spaced(out, at, Networks(s), network::put_network)
 }
 
 // As many numbers as asked for, with a separator between.
@@ -117,7 +133,7 @@ fn put_field<F: FnOnce(&mut [u8], usize, &[u8]) -> usize>(
     put_body: F,
 ) -> usize
     requires { F.IsAlwaysCallable put_body }
-    ensures { (text : List ℕ → List ℕ) → Writes (F.post put_body) text
+    ensures { (text : List ℕ → List ℕ) → Writes (F.post put_body) (λ body. text body.now)
         → Written out.old at ((bar ∷ []) ++ optional text (body_at s.now (find_of code s.now))) out.new result }
 {
     let place = octets::put(out, at, b'|');
@@ -177,16 +193,7 @@ fn put_aggregator(out: &mut [u8], at: usize, body: &[u8], width: Width) -> usize
 fn put_communities(out: &mut [u8], at: usize, body: &[u8]) -> usize
     ensures { Written out.old at (communities_text (communities_of body.now)) out.new result }
 {
-    let mut held = Communities(body);
-    let Some(first) = held.next() else {
-        return at;
-    };
-    let mut place = communities::put_community(out, at, first);
-    for community in held {
-        place = octets::put(out, place, b' ');
-        place = communities::put_community(out, place, community);
-    }
-    place
+    put_spaced(out, at, Communities(body), communities::put_community)
 }
 
 // The fields of the attributes, each after a bar.

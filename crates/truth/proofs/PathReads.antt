@@ -1,4 +1,4 @@
--- Laws of a pattern's items against the members that are left. Assumes nothing.
+-- Laws of a pattern's items against the members that are left, and against those from a cursor on. Assumes nothing.
 use Prim.Native.Nat.{ℕ}
 use Rattle.std.specs.Prelude.{Option, Some, None, is_some}
 use Rattle.std.specs.Iterator.{YieldsFirstBy}
@@ -6,14 +6,16 @@ use mathlib.Core.Path.{◌≡◌, refl, sym}
 use mathlib.Core.Bool.{Bool, true, false, not}
 use mathlib.Core.List.{List, [], ◌∷◌}
 use Rattle.octets.proofs.Choices.{never}
+use Rattle.aspath.specs.declared.Cursor.{Cursor}
 use Rattle.aspath.specs.declared.Item.{Item}
 use Rattle.aspath.specs.declared.Members.{Members}
 use Rattle.aspath.specs.Members.{Member, member_of}
-use Rattle.aspath.specs.Cursors.{left}
+use Rattle.aspath.specs.Cursors.{remaining, next_at, left}
 use Rattle.aspath.specs.Patterns.{fits, matches_here, matches_some, matches}
 use Rattle.program.specs.declared.Fields.{Fields}
 use Rattle.program.specs.Layout.{is_start, is_end}
-use Rattle.truth.specs.Matching.{pattern_of}
+use Rattle.aspath.proofs.Cursors.{member_view, end_view}
+use Rattle.truth.specs.Matching.{matches_at, pattern_of}
 
 module _ (m after : Members) where
   -- a step that gives nothing had nothing left
@@ -58,6 +60,23 @@ module _ (end : Bool) where
       pub here_next : fits i m ≡ true → matches_here end (i ∷ is) (m ∷ ms) ≡ matches_here end is ms
       unfolding matches_here
       here_next h = rw h refl
+
+-- what the items match from a cursor on, they match of the members from it on
+pub at_members : (end : Bool) (w : ℕ) (s : List ℕ) (is : List Item) (c : Cursor) → matches_at end is w s c ≡ matches_here end is (remaining w s c)
+unfolding matches_at matches_here
+at_members end w s [] c = go (next_at w s c) refl end
+  where
+    go : (n : Option (ℕ × Cursor)) → next_at w s c ≡ n → (e : Bool) → matches_at e [] w s c ≡ matches_here e [] (remaining w s c)
+    go (Some x) e true = rw (e, member_view w s c e) refl
+    go (Some x) e false = rw (member_view w s c e) refl
+    go None e true = rw (e, end_view w s c e) refl
+    go None e false = rw (end_view w s c e) refl
+at_members end w s (i ∷ is) c = go (next_at w s c) refl (at_members end w s is)
+  where
+    go : (n : Option (ℕ × Cursor)) → next_at w s c ≡ n → ((d : Cursor) → matches_at end is w s d ≡ matches_here end is (remaining w s d))
+        → matches_at end (i ∷ is) w s c ≡ matches_here end (i ∷ is) (remaining w s c)
+    go (Some x) e ih = rw (e, member_view w s c e, ih x.1) refl
+    go None e ih = rw (e, end_view w s c e) refl
 
 -- ---- from some place on
 

@@ -1,12 +1,14 @@
 -- What the functions below `holds` compute, from the fields of a record and the bytes behind it.
-use Rattle.std.specs.Prelude.{ℕ, ◌+◌, ◌*◌, Bool, false, List, [], take, eqb, leb}
-use Rattle.std.specs.Prelude.{Option}
+use Rattle.std.specs.Prelude.{ℕ, ◌+◌, ◌*◌, Bool, true, false, List, [], ◌∷◌, take, eqb, leb}
+use Rattle.std.specs.Prelude.{Option, Some, None}
 use Rattle.octets.specs.Choice.{pick, both, otherwise}
 use Rattle.aspath.specs.declared.Item.{Item}
-use Rattle.aspath.specs.Members.{Member}
+use Rattle.aspath.specs.declared.Cursor.{Cursor}
+use Rattle.aspath.specs.Members.{Member, member_of}
+use Rattle.aspath.specs.Cursors.{next_at}
 use Rattle.aspath.specs.Loops.{has_loop}
 use Rattle.aspath.specs.Bogons.{some_bogon}
-use Rattle.aspath.specs.Patterns.{Pattern, matches}
+use Rattle.aspath.specs.Patterns.{Pattern, fits, matches}
 use Rattle.communities.specs.Communities.{holds_all}
 use Rattle.message.specs.Message.{Message}
 use Rattle.program.specs.declared.Fields.{Fields}
@@ -40,6 +42,20 @@ items_in = each_in item_of
 
 abbrev pub numbers_in : ℕ → List ℕ → List ℕ
 numbers_in = each_in number_of
+
+-- the same by cursors: what stands at one decides, a member with the cursor after it, or nothing more
+abbrev pub on_next : Option (ℕ × Cursor) → (Member → Cursor → Bool) → Bool → Bool
+on_next (Some x) member end = member (member_of x.0) x.1
+on_next None member end = end
+
+-- no member stands there
+abbrev pub ends_at : Option (ℕ × Cursor) → Bool
+ends_at n = on_next n (λ m after. false) true
+
+-- the items match members from a cursor on; to the end where end is true
+unfoldable pub matches_at : Bool → List Item → ℕ → List ℕ → Cursor → Bool
+matches_at end [] w path c = pick end (ends_at (next_at w path c)) true
+matches_at end (i ∷ is) w path c = on_next (next_at w path c) (λ m after. both (fits i m) (matches_at end is w path after)) false
 
 -- the pattern of a path record and its items
 abbrev pub pattern_of : Fields → List Item → Pattern

@@ -1,21 +1,13 @@
--- `line::put_prefixes` meets its contract. The loop's invariant: the networks that the iterator has left are left to write. Assumes nothing.
-use native.Mathlib.Omega.{arith}
-use mathlib.Core.Path.{ap}
+-- `line::put_prefixes` meets its contract: the items of an iterator with spaces between. Assumes nothing.
 use mathlib.Core.List.{map}
+use Rattle.std.proofs.Common.{rules}
+use Rattle.network.specs.Networks.{network_in}
+use Rattle.network.specs.Left.{networks_left}
 use Rattle.network.specs.Text.{network_text}
-use Rattle.line.specs.Text.{space}
-use Rattle.line.proofs.Texts.{none_written, next_written, all_written}
+use Rattle.line.proofs.Texts.{texts_given}
 use Rattle.line.proofs.put_prefixes.Goals as goal
-
-pub returns-in_default : goal.returns-in_default
-returns-in_default c = none_written space (ap (map network_text) c.in_default.ensures.steps.0) (omega arith) (omega arith)
-
-pub loop-n-preserved : goal.loop-n-preserved
-loop-n-preserved c =
-    next_written space _ _ (ap (map network_text) c.in-Some-n.ensures.steps)
-    c.loop-n.invariant c.put-place.ensures c.put_network-place-in-loop-n.ensures
 
 pub returns : goal.returns
 returns c =
-    all_written space _ _ (ap (map network_text) c.in-Some.ensures.steps) (ap (map network_text) c.in-None.ensures.steps.0)
-    c.put_network-place.ensures (rw c.into_iter-n-iterator.ensures.into_iter_gives at c.loop-n.invariant)
+    c.put_spaced.ensures (λ item. network_text (network_in item)) (λ items. map network_text (networks_left items))
+    (texts_given network_in networks_left network_text) (λ out at item next after h. search rules)
