@@ -5,7 +5,6 @@ pub mod MeaningLoops
 pub mod MeaningMembers
 pub mod MeaningPatterns
 pub mod NumberReads
-pub mod Ranges
 pub mod Returns
 pub mod SegmentReads
 pub mod Segments

@@ -156,7 +156,7 @@ pub fn member_at(s: &[u8], c: Cursor, width: Width) -> Option<(u32, Cursor)>
             },
         ));
     }
-    if s.len() < c.at || s.len() - c.at < w {
+    if octets::rest(s, c.at).len() < w {
         return None;
     }
     Some((
@@ -202,10 +202,10 @@ pub fn members_of(body: &[u8], width: Width) -> Members<'_>
 }
 
 // Whether some number returns after another: the search is left at the first loop found.
-pub fn loops(s: &[u8], width: Width) -> bool
-    ensures { result ≡ has_loop (members_of (width_bytes width) s.now) }
+pub fn loops(from: Members) -> bool
+    ensures { result ≡ has_loop (left from.entry) }
 {
-    let mut path = members_of(s, width);
+    let mut path = from;
     'search: loop {
         let Some(n) = path.next() else {
             return false;
@@ -225,14 +225,15 @@ pub fn loops(s: &[u8], width: Width) -> bool
 pub fn bogon(n: u32) -> bool
     ensures { result ≡ is_bogon n }
 {
-    BOGONS.iter().any(|r| r.low <= n && n <= r.high)
+    BOGONS.iter().any(|r| (r.low..=r.high).contains(&n))
 }
 
 // Whether some number of the path is a bogon.
-pub fn has_bogon(s: &[u8], width: Width) -> bool
-    ensures { result ≡ some_bogon (members_of (width_bytes width) s.now) }
+pub fn has_bogon(from: Members) -> bool
+    ensures { result ≡ some_bogon (left from.entry) }
 {
-    members_of(s, width).any(bogon)
+    let mut path = from;
+    path.any(bogon)
 }
 
 // Whether an item of a pattern takes a member.

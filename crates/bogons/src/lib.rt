@@ -6,19 +6,20 @@ ghost use Rattle.bogons.specs.Bogons.{is_bogon};
 ghost use Rattle.bogons.specs.Search.{after, pair_holds, bogon_search, most_comparisons};
 
 // A range of AS numbers.
-#[derive(Clone, Copy)]
+#[derive(Clone, Copy, Debug, PartialEq, Eq)]
 pub struct Range {
     pub low: u32,
     pub high: u32,
 }
 
 // What a search of a table told: whether some range holds the number, and how often the number was compared with a bound.
-#[derive(Clone, Copy)]
+#[derive(Clone, Copy, Debug, PartialEq, Eq)]
 pub struct Lookup {
     pub found: bool,
     pub comparisons: usize,
 }
 
+// The table stands in aspath too: nothing uses this crate yet.
 const BOGON_RANGES: usize = 9;
 
 const BOGONS: [Range; BOGON_RANGES] = [

@@ -11,9 +11,9 @@ use Rattle.filter.specs.Answers.{number_of}
 use Rattle.filter.specs.Functions.{Compiling, compiling_of, our_compiler}
 use Rattle.filter.proofs.Numbers.{number_between}
 use Rattle.judge.specs.declared.Tally.{Tally}
-use Rattle.judge.specs.declared.Judged as declared
+use Rattle.judge.specs.declared.Verdict.{Verdict}
+use Rattle.judge.specs.declared.Refusal.{Refusal}
 use Rattle.judge.specs.Functions.{Judging, judging_of, our_judge}
-use Rattle.claims.specs.declared.Answer.TheVariants.{Judged, Refused}
 use Rattle.claims.specs.Functions.{judged_with}
 use Rattle.claims.specs.DemandThree.{DemandThreeAt}
 use Rattle.claims.specs.Answered.{compiling_in, judging_in, Claimed}
@@ -28,8 +28,8 @@ module _ (text buffer bytes lines : List ℕ) (counting : Option Tally) where
 
   module _ (c : Result ℕ filter.Refused) (program : List ℕ) (promise : compiling_of c program ≡ our_compiler text buffer) where
     -- the text compiles, and the record is judged with the reported bytes
-    pub promised_judged : (size : ℕ) → c ≡ Ok size → (j : declared.Judged) (new : List ℕ) (after : Option Tally)
-        → judging_of j new after ≡ our_judge (take size program) bytes lines counting → Claimed text buffer bytes lines counting (Judged size j) program new after
+    pub promised_judged : (size : ℕ) → c ≡ Ok size → (j : Result Verdict Refusal) (new : List ℕ) (after : Option Tally)
+        → judging_of j new after ≡ our_judge (take size program) bytes lines counting → Claimed text buffer bytes lines counting (Ok (record { bytes = size; judged = j })) program new after
     unfolding compiling_in judging_in compiling_of
     promised_judged size is j new after e =
         let says : compiling_of (Ok size) program ≡ our_compiler text buffer = rw is at promise in
@@ -37,7 +37,7 @@ module _ (text buffer bytes lines : List ℕ) (counting : Option Tally) where
         record { compiled = says; judged = judges; demand = demanded says judges; left_alone = λ n. absurd (n refl) }
 
     -- it doesn't
-    pub promised_refused : (r : filter.Refused) → c ≡ Err r → Claimed text buffer bytes lines counting (Refused r.refusal r.place) program lines counting
+    pub promised_refused : (r : filter.Refused) → c ≡ Err r → Claimed text buffer bytes lines counting (Err r) program lines counting
     unfolding compiling_in judging_in compiling_of
     promised_refused r is =
         let says : compiling_of (Err r) program ≡ our_compiler text buffer = rw is at promise in

@@ -1,32 +1,26 @@
 -- What `compile_and_judge` answers, as what compiling and judging answer; and what it leaves where compiling refuses.
 use Rattle.std.specs.Prelude.{ℕ, ◌≡◌, List}
-use Rattle.std.specs.Prelude.{Option, Some, None, Ok, Err}
+use Rattle.std.specs.Prelude.{Option, Some, None, Result, Ok, Err}
+use Rattle.filter.specs.declared.Refused.{Refused}
 use Rattle.filter.specs.Functions.{Compiling, compiling_of, our_compiler}
 use Rattle.judge.specs.declared.Tally.{Tally}
 use Rattle.judge.specs.Functions.{Judging, judging_of, our_judge}
-use Rattle.claims.specs.declared.Counting.{Counting}
-use Rattle.claims.specs.declared.Counting.TheVariants.{Without, With}
-use Rattle.claims.specs.declared.Answer.{Answer}
-use Rattle.claims.specs.declared.Answer.TheVariants.{Judged, Refused}
+use Rattle.claims.specs.declared.Judged.{Judged}
 use Rattle.claims.specs.Functions.{judged_with}
 use Rattle.claims.specs.DemandThree.{DemandThreeAt}
 
-abbrev pub counting_of : Counting → Option Tally
-counting_of Without = None
-counting_of (With t) = Some t
-
 -- what compiling says in an answer, with the program buffer afterwards
-unfoldable pub compiling_in : Answer → List ℕ → Compiling
-compiling_in (Judged bytes j) buffer = compiling_of (Ok bytes) buffer
-compiling_in (Refused why place) buffer = compiling_of (Err (record { refusal = why; place = place })) buffer
+unfoldable pub compiling_in : Result Judged Refused → List ℕ → Compiling
+compiling_in (Ok j) buffer = compiling_of (Ok j.bytes) buffer
+compiling_in (Err r) buffer = compiling_of (Err r) buffer
 
 -- what judging does, with the line buffer and the tally afterwards; where compiling refuses, nothing is judged
-unfoldable pub judging_in : Answer → List ℕ → Option Tally → Option Judging
-judging_in (Judged bytes j) lines counting = Some (judging_of j lines counting)
-judging_in (Refused why place) lines counting = None
+unfoldable pub judging_in : Result Judged Refused → List ℕ → Option Tally → Option Judging
+judging_in (Ok j) lines counting = Some (judging_of j.judged lines counting)
+judging_in (Err r) lines counting = None
 
 -- what is promised of an answer a, with program, new and after as the two buffers and the tally afterwards
-pub record Claimed (text buffer bytes lines : List ℕ) (counting : Option Tally) (a : Answer) (program new : List ℕ) (after : Option Tally)
+pub record Claimed (text buffer bytes lines : List ℕ) (counting : Option Tally) (a : Result Judged Refused) (program new : List ℕ) (after : Option Tally)
     : Type 0 where
   -- the answer is that of compiling, and of judging with the bytes that it reported
   pub compiled : compiling_in a program ≡ our_compiler text buffer

@@ -3,64 +3,39 @@
 
 ghost use Rattle.std.specs.Prelude.{◌≡◌};
 ghost use Rattle.judge.specs.Functions.{judging_of, our_judge};
-ghost use Rattle.claims.specs.Answered.{counting_of, Claimed};
+ghost use Rattle.claims.specs.Answered.{Claimed};
 
-use filter::Refusal;
-use judge::{Judged, Tally};
+use filter::Refused;
+use judge::{Refusal, Tally, Verdict};
 
-// A tally to count in, or none.
+// A text that compiles: the bytes of its program, and what judging a record with these answers.
 #[derive(Clone, Copy)]
-pub enum Counting {
-    Without,
-    With(Tally),
+pub struct Judged {
+    pub bytes: usize,
+    pub judged: Result<Verdict, Refusal>,
 }
 
-// What compiling a text, and judging a record with its program, answer.
-#[derive(Clone, Copy)]
-pub enum Answer {
-    // The text compiles to so many bytes, and the record is judged with these.
-    Judged { bytes: usize, judged: Judged },
-    // The text isn't compiled: why, and where.
-    Refused { refusal: Refusal, place: usize },
-}
-
-// An answer, and the tally after it.
+// What compiling and judging answer, and the tally after them, where there is one.
 #[derive(Clone, Copy)]
 pub struct Answered {
-    pub answer: Answer,
-    pub counting: Counting,
+    pub answer: Result<Judged, Refused>,
+    pub counting: Option<Tally>,
 }
 
-// What judging answers, and the tally after it.
-#[derive(Clone, Copy)]
-struct JudgedCounting {
-    judged: Judged,
-    counting: Counting,
-}
-
-// Judges with a tally or none.
-fn judge_in(program: &[u8], bytes: &[u8], lines: &mut [u8], counting: Counting) -> JudgedCounting
-    ensures { judging_of result.judged lines.new (counting_of result.counting)
-        ≡ our_judge program.now bytes.now lines.old (counting_of counting) }
+// Judges with a tally or none, and answers the tally after it too.
+fn judge_in(
+    program: &[u8],
+    bytes: &[u8],
+    lines: &mut [u8],
+    counting: Option<Tally>,
+) -> (Result<Verdict, Refusal>, Option<Tally>)
+    ensures { judging_of result.0 lines.new result.1 ≡ our_judge program.now bytes.now lines.old counting }
 {
-    match counting {
-        Counting::Without => {
-            let judged = judge::judge(program, bytes, lines);
-            JudgedCounting {
-                judged,
-                counting: Counting::Without,
-            }
-        }
-        Counting::With(tally) => {
-            let counted = judge::judge_with(program, bytes, lines, tally);
-            let judged = counted.judged;
-            let after = counted.tally;
-            JudgedCounting {
-                judged,
-                counting: Counting::With(after),
-            }
-        }
-    }
+    let Some(tally) = counting else {
+        return (judge::judge(program, bytes, lines), None);
+    };
+    let counted = judge::judge_with(program, bytes, lines, tally);
+    (counted.judged, Some(counted.tally))
 }
 
 // Compiles a text and judges a record with the program.
@@ -69,29 +44,29 @@ pub fn compile_and_judge(
     program: &mut [u8],
     bytes: &[u8],
     lines: &mut [u8],
-    counting: Counting,
+    counting: Option<Tally>,
 ) -> Answered
     ensures { Claimed text.now program.old bytes.now lines.old
-        (counting_of counting) result.answer program.new lines.new (counting_of result.counting) }
+        counting result.answer program.new lines.new result.counting }
 {
     match filter::compile(text, program) {
         Ok(size) => {
-            let counted = judge_in(octets::part(program, 0, size), bytes, lines, counting);
-            let judged = counted.judged;
-            let after = counted.counting;
+            let (judged, counting) = judge_in(
+                octets::part(program, 0, size),
+                bytes,
+                lines,
+                counting,
+            );
             Answered {
-                answer: Answer::Judged {
+                answer: Ok(Judged {
                     bytes: size,
                     judged,
-                },
-                counting: after,
+                }),
+                counting,
             }
         }
         Err(refused) => Answered {
-            answer: Answer::Refused {
-                refusal: refused.refusal,
-                place: refused.place,
-            },
+            answer: Err(refused),
             counting,
         },
     }

@@ -20,7 +20,6 @@ use Rattle.filter.specs.Grammar.{Part, expression, conjunction, factor}
 use Rattle.filter.specs.Answers.{bare, Opener, a_group, a_bang}
 use Rattle.filter.specs.Reader.{Hole, grouping, negating, depth, ReaderState, want, have, level, bad, deep, opens, stuck, refused, settle, outer, leave, end, join, conclude, finish, move}
 use Rattle.filter.specs.Parsing.{token_role, first_role, from, run, begins, Stood, Over, Ready, Read, Stopped, PartSays, refused_at}
-use Rattle.filter.specs.declared.Refusal.{Refusal}
 use Rattle.filter.specs.declared.Refusal.TheVariants.{Token as aToken, Level}
 use Rattle.filter.specs.declared.Refused.{Refused}
 use Rattle.filter.specs.declared.Upto.{Upto}

@@ -1,8 +1,10 @@
 -- What a grammar function says of a part: what was read, or what was refused. Assumes nothing.
 use Prim.Native.Nat.{ℕ}
 use native.Mathlib.Omega.{arith}
-use mathlib.Core.Path.{◌≡◌, sym, ◌∙◌}
+use mathlib.Core.Path.{◌≡◌, sym, ap, ◌∙◌}
 use Rattle.std.specs.Prelude.{Result, Ok, Err}
+use Rattle.std.specs.Result.{IsErrAnd}
+use Rattle.std.proofs.lemmas.Result.{err_from_is_err_and}
 use mathlib.Core.List.{List, ◌++◌, append_assoc}
 use Rattle.token.specs.declared.Lexeme.{Lexeme}
 use Rattle.filter.specs.Grammar.{Part}
@@ -51,3 +53,10 @@ module _ {p : Part} {text old new : List ℕ} {lv n : ℕ} {t : Lexeme} where
     over = λ v e. let z : ◌≡◌ {A = ℕ} 0 1 = cc in absurd (omega arith);
     refused = λ y e. let z : x ≡ y = cc in rw (← z) s;
   }
+
+-- what `?` hands on is the refusal that it met
+pub handed_on : {A : Type 0} {r : Result A Refused} {x : Refused} → IsErrAnd r (λ y. y ≡ x) → r ≡ Err x
+handed_on {r = r} {x} e = go (err_from_is_err_and r e)
+  where
+    go : (y : Refused) × (r ≡ Err y) × (y ≡ x) → r ≡ Err x
+    go (y, p, q) = rw p (ap (λ z. Err z) q)

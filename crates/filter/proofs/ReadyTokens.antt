@@ -110,9 +110,25 @@ joint_said : (o : Operator) (r : Option Said) → role_said r ≡ Some (joins o)
 joint_said o None e = let z : ◌≡◌ {A = ℕ} 0 1 = cc in absurd (omega arith)
 joint_said o (Some r) e = let x : role_meant r ≡ joins o = cc in ap (λ r. Some r) (joint_meant o r x)
 
--- another answer says no such operator
-pub not_joint : (o : Operator) {x : Option Role} (r : Option Said) → role_said r ≡ x → (r ≡ Some (operator_said o) → ⊥) → x ≡ Some (joins o) → ⊥
-not_joint o r s n e = n (joint_said o r (s ∙ e))
+-- an operator was said
+pub joined_by : (o : Operator) {x : Option Role} {r : Option Said} {s : Said} → role_said r ≡ x → r ≡ Some s → s ≡ operator_said o → x ≡ Some (joins o)
+joined_by o p e k = sym p ∙ ap role_said e ∙ ap (λ s. Some (role_meant s)) k ∙ said_joins o
+  where
+    said_joins : (o : Operator) → role_said (Some (operator_said o)) ≡ Some (joins o)
+    said_joins and = refl
+    said_joins or = refl
+
+-- none was
+pub not_joint : (o : Operator) {x : Option Role} {r : Option Said} → role_said r ≡ x → (r ≡ Some (operator_said o) → ⊥) → x ≡ Some (joins o) → ⊥
+not_joint o {r = r} s n e = n (joint_said o r (s ∙ e))
+
+-- another role was said
+pub other_role : {r : Option Said} {s other : Said} → r ≡ Some s → (s ≡ other → ⊥) → r ≡ Some other → ⊥
+other_role {s = s} {other} e n f = let x : s ≡ other = cc in n x
+
+-- nothing was
+pub no_role : {r : Option Said} {other : Said} → r ≡ None → r ≡ Some other → ⊥
+no_role e f = let z : ◌≡◌ {A = ℕ} 0 1 = cc in absurd (omega arith)
 
 -- `)` has its sort
 pub close_sort : (k : Sort) (w : Word) → token_of k w ≡ Some close → k ≡ Close

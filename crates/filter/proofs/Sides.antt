@@ -17,7 +17,6 @@ use Rattle.filter.specs.Words.{joins, role_of}
 use Rattle.filter.specs.Grammar.{Part, expression, conjunction, factor}
 use Rattle.filter.specs.Reader.{Hole, first, oring, head, anding, depth, ReaderState, want, takes, settle, outer, again, join, move}
 use Rattle.filter.specs.Parsing.{role_in, first_role, from, run, begins, Stood, Over, Ready, Read, PartSays}
-use Rattle.filter.specs.declared.Refusal.{Refusal}
 use Rattle.filter.specs.declared.Refused.{Refused}
 use Rattle.filter.specs.declared.Upto.{Upto}
 use Rattle.filter.proofs.Overlay.{wrote_pass}

@@ -55,7 +55,7 @@ enum Role {
 }
 
 // A part that was read: the token behind it, and where its records end in the program.
-#[derive(Clone, Copy)]
+#[derive(Clone, Copy, Debug, PartialEq, Eq)]
 struct Upto {
     next: Lexeme,
     n: usize,
@@ -232,6 +232,7 @@ fn factor(text: &[u8], level: usize, t: Lexeme, out: &mut [u8], n: usize) -> Res
 }
 
 // Factors joined by `-and`. A pass is written when the count of the records that it passes over is known.
+// A function for each part of the grammar: this and the next differ in word, kind and side, and taking the side as a closure is no plainer.
 #[cycle(conjunction_expression_factor)]
 fn conjunction(
     text: &[u8],

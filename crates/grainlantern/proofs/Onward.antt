@@ -5,12 +5,13 @@ use native.Mathlib.Decide.{dec_le}
 use native.Mathlib.Omega.{arith}
 use mathlib.Core.Path.{◌≡◌, refl, ap}
 use mathlib.Core.List.{List}
-use Rattle.std.specs.Prelude.{Option, Some}
+use Rattle.std.specs.Prelude.{Option, Some, Result}
 use lib.ListN.{length}
 use Rattle.header.specs.Header.{header_size}
 use Rattle.octets.specs.Numbers.{number_at}
 use Rattle.walk.proofs.Steps.{step_past, step_short, step_overrun, step_whole}
-use Rattle.judge.specs.declared.Judged.{Judged}
+use Rattle.judge.specs.declared.Refusal.{Refusal}
+use Rattle.judge.specs.declared.Verdict.{Verdict}
 use Rattle.judge.specs.declared.Tally.{Tally}
 use Rattle.judge.specs.Tallies.{tally}
 use Rattle.judge.specs.Functions.{Judge, judging_of, our_judge}
@@ -52,7 +53,7 @@ reached_start program records buffer = record { step = 0; state = refl }
 -- from there a step judges a record
 module _ {program records buffer : List ℕ} {at : ℕ} {lines : List ℕ} {t : Tally} (s : Reached program records buffer at lines t)
     (ran : Ran) (new : List ℕ) (e : stepped ran new ≡ runner_of our_judge program records at lines (Some t))
-    {said : Judged} {after : Tally} {next : ℕ} (g : ran ≡ ran_judged said after next) where
+    {said : Result Verdict Refusal} {after : Tally} {next : ℕ} (g : ran ≡ ran_judged said after next) where
   answers : answer_of (runner_of our_judge) program records (begins buffer) s.step ≡ judged (judging_of said new (Some after)) next
   answers = rw (s.state, ← e, g)
 

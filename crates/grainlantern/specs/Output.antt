@@ -1,9 +1,10 @@
 -- What is written for a good filter: the lines that the steps of a run hand out, with the program that the filter compiles to.
 use Rattle.std.specs.Prelude.{ℕ, ◌≡◌, List, [], take}
-use Rattle.std.specs.Prelude.{Some}
+use Rattle.std.specs.Prelude.{Some, Result, Ok, Err}
 use Rattle.filter.specs.Functions.{reported, our_compiler}
-use Rattle.judge.specs.declared.Judged.{Judged}
-use Rattle.judge.specs.declared.Judged.TheVariants.{Kept, Dropped, Refused}
+use Rattle.judge.specs.declared.Refusal.{Refusal}
+use Rattle.judge.specs.declared.Verdict.{Verdict}
+use Rattle.judge.specs.declared.Verdict.TheVariants.{Kept, Dropped}
 use Rattle.judge.specs.declared.Tally.{Tally}
 use Rattle.judge.specs.Tallies.{tally}
 use Rattle.judge.specs.Functions.{judging_of, our_judge}
@@ -17,10 +18,10 @@ pub record Lent (program : List ℕ) : Type 0 where
   pub is : program ≡ reported (our_compiler text buffer)
 
 -- the lines that an answer hands out, with the line buffer afterwards: those of a kept record, at its start
-abbrev pub kept_lines : Judged → List ℕ → List ℕ
-kept_lines (Kept spent bytes) lines = take bytes lines
-kept_lines (Dropped spent) lines = []
-kept_lines (Refused why) lines = []
+abbrev pub kept_lines : Result Verdict Refusal → List ℕ → List ℕ
+kept_lines (Ok (Kept spent bytes)) lines = take bytes lines
+kept_lines (Ok (Dropped spent)) lines = []
+kept_lines (Err why) lines = []
 
 -- where a run begins: at the first byte, with nothing counted
 abbrev pub begins : List ℕ → RunState
@@ -31,7 +32,7 @@ pub record OfRun (program records bytes : List ℕ) : Type 0 where
   pub buffer : List ℕ
   pub step : ℕ
   -- its answer, with the line buffer and the tally afterwards, and the place behind the record
-  pub said : Judged
+  pub said : Result Verdict Refusal
   pub lines : List ℕ
   pub counts : Tally
   pub next : ℕ

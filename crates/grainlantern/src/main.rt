@@ -5,7 +5,7 @@ ghost use Rattle.std.specs.Prelude.{◌≡◌, ◌≤◌, length, MatchResult};
 ghost use Rattle.grainlantern.specs.Refusal.{refusal_text, RefusedAt};
 ghost use Rattle.grainlantern.specs.Output.{Lent, kept_lines, OfRun};
 
-use judge::{Judged, Tally};
+use judge::{Refusal, Tally, Verdict};
 use run::Ran;
 use std::fs;
 use std::io::Read;
@@ -23,14 +23,20 @@ const LINE_ROOM: usize = 65536;
 // One byte more than a text may have, so that one that is too long is seen.
 const FILTER_ROOM: usize = token::TEXT_LIMIT + 1;
 
-// Reads until the room is full or the input ends, and answers the bytes read; as an error those that came before a read that failed.
-fn read_full<R: Read>(input: &mut R, room: &mut [u8]) -> Result<usize, usize>
-    ensures { MatchResult result (λ n. n ≤ length room.new) (λ n. n ≤ length room.new) }
+// A read that failed, and how many bytes came before it.
+#[derive(Clone, Copy, Debug, PartialEq, Eq)]
+struct ReadFailed {
+    before: usize,
+}
+
+// Reads until the room is full or the input ends, and answers how many bytes were read.
+fn read_full<R: Read>(input: &mut R, room: &mut [u8]) -> Result<usize, ReadFailed>
+    ensures { MatchResult result (λ n. n ≤ length room.new) (λ failed. failed.before ≤ length room.new) }
 {
     let mut length = 0;
     while length < room.len() {
         match input.read(&mut room[length..]) {
-            Err(_) => return Err(length),
+            Err(_) => return Err(ReadFailed { before: length }),
             Ok(0) => return Ok(length),
             Ok(more) => length += more,
         }
@@ -47,10 +53,7 @@ fn read_file<R: Read>(file: &mut R, room: &mut [u8]) -> usize {
 fn read_input<R: Read>(input: &mut R, room: &mut [u8]) -> usize
     ensures { result ≤ length room.new }
 {
-    match read_full(input, room) {
-        Ok(length) => length,
-        Err(length) => length,
-    }
+    read_full(input, room).unwrap_or_else(|failed| failed.before)
 }
 
 // Reads the filter that the first argument names, and answers its bytes. No argument, a name that is too long or no text, and a file that
@@ -69,49 +72,56 @@ fn read_filter(rt: &HostRuntime, text: &mut [u8]) -> usize {
     read_file(&mut file, text)
 }
 
+// Why a filter isn't compiled, and where.
+#[derive(Clone, Copy, Debug, PartialEq, Eq)]
+struct RefusedFilter {
+    number: u32,
+    place: u32,
+}
+
 // The text of a refusal, written over the start of a buffer.
-fn refusal_text<'a>(out: &'a mut [u8], number: u32, place: u32) -> &'a [u8]
+fn refusal_text(out: &mut [u8], refused: RefusedFilter) -> &[u8]
     requires { 33 ≤ length out.old }
-    ensures { result.now ≡ refusal_text number place }
+    ensures { result.now ≡ refusal_text refused.number refused.place }
 {
     let at = octets::put_bytes(out, 0, b"refused ");
-    let at = octets::put_decimal(out, at, number);
+    let at = octets::put_decimal(out, at, refused.number);
     let at = octets::put_bytes(out, at, b" at ");
-    let at = octets::put_decimal(out, at, place);
+    let at = octets::put_decimal(out, at, refused.place);
     let end = octets::put(out, at, b'\n');
     let whole = &out[..];
     octets::part(whole, 0, end)
 }
 
 // The one writer of a refusal: by one write, so that no part of it follows a torn one.
-fn write_refusal(rt: &HostRuntime, number: u32, place: u32, text: &[u8])
-    requires refused_at { RefusedAt number place }
-    requires text_value { text.now ≡ refusal_text number place }
+fn write_refusal(rt: &HostRuntime, refused: RefusedFilter, text: &[u8])
+    requires refused_at { RefusedAt refused.number refused.place }
+    requires text_value { text.now ≡ refusal_text refused.number refused.place }
 {
     let _ = rt.write_all(text);
 }
 
 // Says why a filter isn't compiled, and where.
-fn refuse(rt: &HostRuntime, number: u32, place: u32)
-    requires { RefusedAt number place }
+fn refuse(rt: &HostRuntime, refused: RefusedFilter)
+    requires { RefusedAt refused.number refused.place }
 {
     let mut out = [0u8; 33];
-    let text = refusal_text(&mut out, number, place);
-    write_refusal(rt, number, place, text);
+    let text = refusal_text(&mut out, refused);
+    write_refusal(rt, refused, text);
 }
 
 // The lines to hand on for an answer: those of a record that is kept.
-fn kept_lines(judged: Judged, lines: &[u8]) -> &[u8]
+fn kept_lines(judged: Result<Verdict, Refusal>, lines: &[u8]) -> &[u8]
     ensures { result.now ≡ kept_lines judged lines.now }
 {
     match judged {
-        Judged::Kept { spent: _, bytes } => octets::part(lines, 0, bytes),
-        Judged::Dropped { spent: _ } => octets::part(lines, 0, 0),
-        Judged::Refused(_) => octets::part(lines, 0, 0),
+        Ok(Verdict::Kept { bytes, .. }) => octets::part(lines, 0, bytes),
+        Ok(Verdict::Dropped { .. }) | Err(_) => &[],
     }
 }
 
 // The one writer of lines: it answers whether the next ones may follow. The program and the records say whose lines they are.
+// `Lent` stands at each function of a program: it names the text, so a struct could hold it only truncated, as a ghost field is a proposition.
 fn write_lines(rt: &HostRuntime, program: &[u8], records: &[u8], lines: &[u8]) -> bool
     requires lent { Lent program.now }
     requires of_run { OfRun program.now records.now lines.now }
@@ -164,7 +174,11 @@ fn main(rt: HostRuntime) {
     let mut program = [0u8; program::PROGRAM_LIMIT];
     let length = read_filter(&rt, &mut text);
     match filter::compile(octets::part(&text, 0, length), &mut program) {
-        Err(refused) => refuse(&rt, u32::from(refused.refusal), refused.place as u32),
+        Err(refused) => {
+            let number = u32::from(refused.refusal);
+            let place = refused.place as u32;
+            refuse(&rt, RefusedFilter { number, place });
+        }
         Ok(size) => filter_records(&rt, octets::part(&program, 0, size)),
     }
 }

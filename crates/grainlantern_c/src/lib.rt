@@ -9,7 +9,7 @@ ghost use Rattle.grainlantern_c.specs.Judgements.{judged_for_c};
 ghost use Rattle.grainlantern_c.specs.Programs.{compiled_for_c};
 ghost use Rattle.grainlantern_c.specs.Steps.{step_for_c};
 
-use judge::{Judged, Tally};
+use judge::{Refusal, Tally, Verdict};
 use walk::Step;
 
 // An answer's number, with its value in the first place and zeros in those kept for later versions.
@@ -27,26 +27,23 @@ pub extern "C" fn grainlantern_compile(text: &[u8], program: &mut [u8], value: &
 {
     match filter::compile(text, program) {
         Ok(bytes) => answer(value, 0, bytes as u64),
-        Err(refused) => answer(
-            value,
-            u32::from(refused.refusal),
-            refused.place as u64,
-        ),
+        Err(refused) => answer(value, u32::from(refused.refusal), refused.place as u64),
     }
 }
 
 // What judging answered, as a number and its values.
-fn answer_judged(value: &mut [u64; 4], judged: Judged) -> u32
+#[tactic(auto, unfolding(judge::specs::Functions::value_of))]
+fn answer_judged(value: &mut [u64; 4], judged: Result<Verdict, Refusal>) -> u32
     ensures { (lines : List ℕ) (counting : Option Tally) → (result, value.new, lines, counting)
         ≡ judged_for_c (judging_of judged lines counting) }
 {
     match judged {
-        Judged::Kept { spent, bytes } => {
+        Ok(Verdict::Kept { spent, bytes }) => {
             *value = [spent.steps as u64, bytes as u64, 0, 0];
             1
         }
-        Judged::Dropped { spent } => answer(value, 0, spent.steps as u64),
-        Judged::Refused(refusal) => answer(value, judge::number_of(refusal), 0),
+        Ok(Verdict::Dropped { spent }) => answer(value, 0, spent.steps as u64),
+        Err(refusal) => answer(value, refusal.into(), 0),
     }
 }
 

@@ -2,7 +2,7 @@
 use Prim.Native.Nat.{ℕ}
 use mathlib.Core.Path.{◌≡◌, refl, sym, ap, ◌∙◌}
 use mathlib.Core.Bool.{Bool, true, false}
-use Rattle.std.specs.Prelude.{Option}
+use Rattle.std.specs.Prelude.{Option, Result, Ok, Err}
 use mathlib.Core.List.{List}
 use lib.ListN.{length}
 use lib.Dec.{ltb}
@@ -11,8 +11,7 @@ use Rattle.octets.specs.Choice.{pick}
 use Rattle.octets.specs.Numbers.{Octets}
 use Rattle.message.specs.Message.{Message}
 use Rattle.message.specs.declared.Refusal.{Refusal}
-use Rattle.message.specs.declared.Decoded.{Decoded}
-use Rattle.message.specs.declared.Decoded.TheVariants.{Read, Refused}
+use Rattle.message.specs.declared.Parts.{Parts}
 use Rattle.message.specs.Represents.{Represents}
 use Rattle.message.specs.Refusals.{RefusedWith}
 use Rattle.message.specs.Decode.{message_at, decode_of}
@@ -57,9 +56,9 @@ module _ {program bytes : List ℕ} {room : ℕ} {counting : Option Tally} where
         by_room false h = keeps v n r e (ltb-false _ _ h)
 
     -- of any record: 11 to 18 too
-    decoded_given : Octets bytes → (d : Decoded) → decode_of bytes ≡ d → RecordAnswers program bytes room counting (decoded program bytes room d)
-    decoded_given o (Read p) e = judged_given (read_represents o e) (machine (record_truth (message_at bytes p)) program) refl
-    decoded_given o (Refused why) e = unread v n (refused_sound o e)
+    decoded_given : Octets bytes → (d : Result Parts Refusal) → decode_of bytes ≡ d → RecordAnswers program bytes room counting (decoded program bytes room d)
+    decoded_given o (Ok p) e = judged_given (read_represents o e) (machine (record_truth (message_at bytes p)) program) refl
+    decoded_given o (Err why) e = unread v n (refused_sound o e)
 
   -- with a valid program: 21 too
   counting_given : Octets bytes → Valid program → (b : Bool) → is_full_tally counting ≡ b

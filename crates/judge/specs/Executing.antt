@@ -1,9 +1,7 @@
 -- What the parts of judging compute: the machine a record at a time, and an answer with what it counts as.
-use Rattle.std.specs.Prelude.{ℕ, ◌+◌, ◌*◌, ◌≡◌, Bool, not, Option, None, Some, List, drop, eqb}
+use Rattle.std.specs.Prelude.{ℕ, ◌+◌, ◌*◌, ◌≡◌, Bool, not, Option, None, Some, Result, Ok, Err, List, drop, eqb}
 use Rattle.octets.specs.Choice.{pick}
 use Rattle.message.specs.Message.{Message}
-use Rattle.message.specs.declared.Decoded.{Decoded}
-use Rattle.message.specs.declared.Decoded.TheVariants.{Read as decoded_read, Refused as decoded_refused}
 use Rattle.program.specs.declared.Fields.{Fields}
 use Rattle.program.specs.declared.Spent.{Spent}
 use Rattle.program.specs.declared.Class.{Class}
@@ -15,29 +13,25 @@ use Rattle.program.specs.Checks.{following_in}
 use Rattle.truth.specs.Records.{truth_at}
 use Rattle.judge.specs.declared.MachineState.{MachineState}
 use Rattle.judge.specs.declared.Tally.{Tally}
+use Rattle.judge.specs.declared.Refusal.{Refusal}
 use Rattle.judge.specs.declared.Refusal.TheVariants.{Program, Count, Record, Lines}
-use Rattle.judge.specs.declared.Judged.{Judged}
-use Rattle.judge.specs.declared.Judged.TheVariants.{Kept, Dropped, Refused}
+use Rattle.judge.specs.declared.Verdict.{Verdict}
+use Rattle.judge.specs.declared.Verdict.TheVariants.{Kept, Dropped}
 use Rattle.judge.specs.Tallies.{one_kept, one_dropped, one_refused}
 use Rattle.judge.specs.Answers.{RecordOutcome, tally_after}
 use Rattle.judge.specs.Functions.{value_of, said_of}
 
--- the answer for a record that isn't read; no caller asks it of one that is
-abbrev pub unread_of : Decoded → Judged
-unread_of (decoded_refused why) = Refused (Record why)
-unread_of (decoded_read parts) = Refused Lines
-
 -- the tally after an answer
-unfoldable pub tally_of : Judged → Tally → Tally
-tally_of (Kept spent bytes) t = one_kept t
-tally_of (Dropped spent) t = one_dropped t
-tally_of (Refused (Record r)) t = one_refused t
-tally_of (Refused Program) t = t
-tally_of (Refused Count) t = t
-tally_of (Refused Lines) t = t
+unfoldable pub tally_of : Result Verdict Refusal → Tally → Tally
+tally_of (Ok (Kept spent bytes)) t = one_kept t
+tally_of (Ok (Dropped spent)) t = one_dropped t
+tally_of (Err (Record r)) t = one_refused t
+tally_of (Err Program) t = t
+tally_of (Err Count) t = t
+tally_of (Err Lines) t = t
 
 -- an answer that says an outcome and counts as it does
-pub record JudgedAs (j : Judged) (o : RecordOutcome) : Type 0 where
+pub record JudgedAs (j : Result Verdict Refusal) (o : RecordOutcome) : Type 0 where
   pub said : value_of j ≡ said_of o
   pub counts : (t : Tally) → tally_of j t ≡ tally_after o t
 

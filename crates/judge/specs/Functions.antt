@@ -1,10 +1,11 @@
 -- Judging as a function of all that is lent, so that a claim can be said of another judge too; and ours.
 use Rattle.std.specs.Prelude.{ℕ, List, length}
-use Rattle.std.specs.Prelude.{Option, Some, None}
+use Rattle.std.specs.Prelude.{Option, Some, None, Result, Ok, Err}
 use Rattle.program.specs.declared.Spent.{Spent}
 use Rattle.program.specs.Spent.{nothing}
-use Rattle.judge.specs.declared.Judged.{Judged}
-use Rattle.judge.specs.declared.Judged.TheVariants.{Kept, Dropped, Refused}
+use Rattle.judge.specs.declared.Refusal.{Refusal}
+use Rattle.judge.specs.declared.Verdict.{Verdict}
+use Rattle.judge.specs.declared.Verdict.TheVariants.{Kept, Dropped}
 use Rattle.judge.specs.declared.Tally.{Tally}
 use Rattle.judge.specs.Answers.{number_of, RecordOutcome, kept, dropped, refused, lines_after, tally_after}
 use Rattle.judge.specs.Judging.{judge_of}
@@ -23,13 +24,13 @@ abbrev pub Judge : Type 0
 Judge = List ℕ → List ℕ → List ℕ → Option Tally → Judging
 
 -- what the code's answer says: 1 kept with what was spent and the bytes of the lines, 0 dropped with what was spent, or a refusal's number
-unfoldable pub value_of : Judged → ℕ × Spent × ℕ
-value_of (Kept spent bytes) = (1, spent, bytes)
-value_of (Dropped spent) = (0, spent, 0)
-value_of (Refused why) = (number_of why, nothing, 0)
+unfoldable pub value_of : Result Verdict Refusal → ℕ × Spent × ℕ
+value_of (Ok (Kept spent bytes)) = (1, spent, bytes)
+value_of (Ok (Dropped spent)) = (0, spent, 0)
+value_of (Err why) = (number_of why, nothing, 0)
 
 -- with the line buffer and the tally afterwards
-abbrev pub judging_of : Judged → List ℕ → Option Tally → Judging
+abbrev pub judging_of : Result Verdict Refusal → List ℕ → Option Tally → Judging
 judging_of j lines counting = record { number = (value_of j).0; spent = (value_of j).1; written = (value_of j).2; lines = lines; tally = counting }
 
 -- what an answer in words says

@@ -1,10 +1,10 @@
 -- The answer of judging, as the code computes it.
 use Rattle.std.specs.Prelude.{ℕ, Bool, List, length, ltb}
-use Rattle.std.specs.Prelude.{Option}
+use Rattle.std.specs.Prelude.{Option, Result, Ok, Err}
 use Rattle.octets.specs.Choice.{pick}
 use Rattle.message.specs.Message.{Message}
-use Rattle.message.specs.declared.Decoded.{Decoded}
-use Rattle.message.specs.declared.Decoded.TheVariants.{Read as decoded_read, Refused as decoded_refused}
+use Rattle.message.specs.declared.Parts.{Parts}
+use Rattle.message.specs.declared.Refusal.{Refusal as RecordRefusal}
 use Rattle.message.specs.Decode.{message_at, decode_of}
 use Rattle.line.specs.Line.{lines_of}
 use Rattle.program.specs.declared.Spent.{Spent}
@@ -25,9 +25,9 @@ abbrev pub judged_by : ℕ → Message → Bool × Spent → RecordOutcome
 judged_by room m x = pick x.0 (printed room x.1 (lines_of m)) (dropped x.1)
 
 -- 11 to 18, or the verdict
-abbrev pub decoded : List ℕ → List ℕ → ℕ → Decoded → RecordOutcome
-decoded program bytes room (decoded_read parts) = judged_by room (message_at bytes parts) (machine (record_truth (message_at bytes parts)) program)
-decoded program bytes room (decoded_refused why) = refused (Record why)
+abbrev pub decoded : List ℕ → List ℕ → ℕ → Result Parts RecordRefusal → RecordOutcome
+decoded program bytes room (Ok parts) = judged_by room (message_at bytes parts) (machine (record_truth (message_at bytes parts)) program)
+decoded program bytes room (Err why) = refused (Record why)
 
 -- the answer for a program, a record, the room for lines and a tally or none
 unfoldable pub judge_of : List ℕ → List ℕ → ℕ → Option Tally → RecordOutcome

@@ -9,22 +9,23 @@ ghost use Rattle.program.specs.Layout.{record_size};
 ghost use Rattle.program.specs.Checks.{is_valid};
 ghost use Rattle.program.specs.Machine.{machine};
 ghost use Rattle.truth.specs.Records.{record_truth};
+ghost use Rattle.judge.specs.declared.Refusal.TheVariants.{Record, Lines};
 ghost use Rattle.judge.specs.Tallies.{is_full};
 ghost use Rattle.judge.specs.Answers.{number_of, lines_after};
 ghost use Rattle.judge.specs.Judging.{decoded};
 ghost use Rattle.judge.specs.Functions.{judging_of, our_judge};
-ghost use Rattle.judge.specs.Executing.{unread_of, tally_of, JudgedAs, passed_over, state_after};
+ghost use Rattle.judge.specs.Executing.{tally_of, JudgedAs, passed_over, state_after};
 
-use line::Wrote;
-use message::{Decoded, Parts, Refusal as RecordRefusal};
+use line::Short;
+use message::{Parts, Refusal as RecordRefusal};
 use program::{Class, Fields, Kind, Spent};
 
 // A count that can't grow.
-const FULL_COUNT: u32 = 4294967295;
+const FULL_COUNT: u32 = u32::MAX;
 
 // Counts of the records that were judged. A caller in C lends one.
 #[repr(C)]
-#[derive(Clone, Copy)]
+#[derive(Clone, Copy, Debug, PartialEq, Eq)]
 pub struct Tally {
     pub seen: u32,
     pub kept: u32,
@@ -33,7 +34,7 @@ pub struct Tally {
 }
 
 // Why a record isn't judged, or its lines aren't written.
-#[derive(Clone, Copy)]
+#[derive(Clone, Copy, Debug, PartialEq, Eq)]
 pub enum Refusal {
     Program,
     Count,
@@ -41,17 +42,17 @@ pub enum Refusal {
     Lines,
 }
 
+// Whether a record is kept: what was spent, and the bytes of its lines.
 #[derive(Clone, Copy)]
-pub enum Judged {
+pub enum Verdict {
     Kept { spent: Spent, bytes: usize },
     Dropped { spent: Spent },
-    Refused(Refusal),
 }
 
 // An answer, and the tally after it.
 #[derive(Clone, Copy)]
 pub struct Counted {
-    pub judged: Judged,
+    pub judged: Result<Verdict, Refusal>,
     pub tally: Tally,
 }
 
@@ -64,14 +65,33 @@ struct MachineState {
 }
 
 // The number of a refusal.
-pub fn number_of(refusal: Refusal) -> u32
-    ensures { result ≡ number_of refusal }
-{
-    match refusal {
-        Refusal::Program => 20,
-        Refusal::Count => 21,
-        Refusal::Record(why) => message::number_of(why),
-        Refusal::Lines => 19,
+#[tactic(auto, unfolding(crate::specs::Answers::number_of))]
+impl From<Refusal> for u32 {
+    ghost from_gives = { λ refusal n. n ≡ number_of refusal };
+
+    fn from(refusal: Refusal) -> u32 {
+        match refusal {
+            Refusal::Program => 20,
+            Refusal::Count => 21,
+            Refusal::Record(why) => why.into(),
+            Refusal::Lines => 19,
+        }
+    }
+}
+
+impl From<RecordRefusal> for Refusal {
+    ghost from_gives = { λ why refusal. refusal ≡ Record why };
+
+    fn from(why: RecordRefusal) -> Refusal {
+        Refusal::Record(why)
+    }
+}
+
+impl From<Short> for Refusal {
+    ghost from_gives = { λ _ refusal. refusal ≡ Lines };
+
+    fn from(_short: Short) -> Refusal {
+        Refusal::Lines
     }
 }
 
@@ -109,29 +129,29 @@ fn step(program: &[u8], bytes: &[u8], parts: Parts, state: MachineState) -> Mach
     requires { (state.at + record_size ≤ record_size * weight_limit) × (state.spent.steps ≤ state.at) }
     ensures { result ≡ state_after (message_at bytes.now parts) program.now state }
 {
-    let at = state.at;
-    let flag = state.flag;
-    let spent = state.spent;
-    let f = program::fields_at(program, at);
-    let next = at + program::RECORD_SIZE;
+    let f = program::fields_at(program, state.at);
+    let next = MachineState {
+        at: state.at + program::RECORD_SIZE,
+        ..state
+    };
     match program::class_of(f.kind) {
         Some(Class::Test) => MachineState {
-            at: past(next, program::following(f)),
-            flag: truth::holds(program, at, bytes, parts),
-            spent: stepped(spent),
+            at: past(next.at, program::following(f)),
+            flag: truth::holds(program, state.at, bytes, parts),
+            spent: stepped(state.spent),
         },
         Some(Class::Flip) => MachineState {
-            at: next,
-            flag: !flag,
-            spent: stepped(spent),
+            flag: !state.flag,
+            spent: stepped(state.spent),
+            ..next
         },
         Some(Class::Pass) => MachineState {
-            at: past(next, passed_over(f, flag)),
-            flag,
-            spent: stepped(spent),
+            at: past(next.at, passed_over(f, state.flag)),
+            spent: stepped(state.spent),
+            ..next
         },
-        Some(Class::Item) => MachineState { at: next, ..state },
-        None => MachineState { at: next, ..state },
+        Some(Class::Item) => next,
+        None => next,
     }
 }
 
@@ -151,19 +171,8 @@ fn execute(program: &[u8], bytes: &[u8], parts: Parts) -> MachineState
     state
 }
 
-// The refusal of a record that isn't read.
-fn unread(decoded: Decoded) -> Judged
-    ensures { result ≡ unread_of decoded }
-{
-    match decoded {
-        Decoded::Refused(why) => Judged::Refused(Refusal::Record(why)),
-        // No caller has one.
-        Decoded::Read(_) => Judged::Refused(Refusal::Lines),
-    }
-}
-
 // Judges a record with a program that is valid, and writes the lines of one that is kept.
-fn judge_valid(program: &[u8], bytes: &[u8], lines: &mut [u8]) -> Judged
+fn judge_valid(program: &[u8], bytes: &[u8], lines: &mut [u8]) -> Result<Verdict, Refusal>
     requires { is_valid program.now ≡ true }
     ensures judged_as { JudgedAs result
         (decoded program.now bytes.now (length lines.old) (decode_of bytes.now)) }
@@ -173,114 +182,95 @@ fn judge_valid(program: &[u8], bytes: &[u8], lines: &mut [u8]) -> Judged
         lines.old }
 {
     let decoded = message::decode(bytes);
-    let Decoded::Read(parts) = decoded else {
-        return unread(decoded);
+    let Ok(parts) = decoded else {
+        return Err(decoded.unwrap_err().into());
     };
     let ran = execute(program, bytes, parts);
     let spent = ran.spent;
     if !ran.flag {
-        return Judged::Dropped { spent };
+        return Ok(Verdict::Dropped { spent });
     }
-    let wrote = line::write(bytes, parts, lines);
-    let Wrote::Bytes(size) = wrote else {
-        return Judged::Refused(Refusal::Lines);
-    };
-    Judged::Kept { spent, bytes: size }
+    let size = line::write(bytes, parts, lines)?;
+    Ok(Verdict::Kept { spent, bytes: size })
 }
 
 // Judges a record with a program.
-pub fn judge(program: &[u8], bytes: &[u8], lines: &mut [u8]) -> Judged
+#[tactic(auto, unfolding(crate::specs::Judging::judge_of, crate::specs::Functions::value_of))]
+pub fn judge(program: &[u8], bytes: &[u8], lines: &mut [u8]) -> Result<Verdict, Refusal>
     ensures { judging_of result lines.new None ≡ our_judge program.now bytes.now lines.old None }
 {
     if !program::is_valid(program) {
-        return Judged::Refused(Refusal::Program);
+        return Err(Refusal::Program);
     }
     judge_valid(program, bytes, lines)
 }
 
 // Whether a count of a tally can't grow.
+#[tactic(auto, unfolding(crate::specs::Tallies::is_full))]
 fn is_full(tally: Tally) -> bool
     ensures { result ≡ is_full tally }
 {
-    if tally.seen == FULL_COUNT {
-        return true;
-    }
-    if tally.kept == FULL_COUNT {
-        return true;
-    }
-    if tally.dropped == FULL_COUNT {
-        return true;
-    }
-    if tally.refused == FULL_COUNT {
-        return true;
-    }
-    false
+    [tally.seen, tally.kept, tally.dropped, tally.refused].contains(&FULL_COUNT)
 }
 
-// The tally after a refusal: only 11 to 18 are counted.
-fn count_refusal(refusal: Refusal, tally: Tally) -> Tally
-    requires { is_full tally ≡ false }
-    ensures { result ≡ tally_of (Judged.Refused refusal) tally }
-{
-    match refusal {
-        Refusal::Record(_) => Tally {
-            seen: tally.seen + 1,
-            kept: tally.kept,
-            dropped: tally.dropped,
-            refused: tally.refused + 1,
-        },
-        Refusal::Program => tally,
-        Refusal::Count => tally,
-        Refusal::Lines => tally,
-    }
-}
-
-// The tally after an answer.
-fn count(judged: Judged, tally: Tally) -> Tally
+// The tally after an answer: of the refusals only 11 to 18 are counted.
+#[tactic(auto, unfolding(crate::specs::Executing::tally_of, crate::specs::Tallies::is_full))]
+fn count(judged: Result<Verdict, Refusal>, tally: Tally) -> Tally
     requires { is_full tally ≡ false }
     ensures { result ≡ tally_of judged tally }
 {
     match judged {
-        Judged::Kept { spent: _, bytes: _ } => Tally {
+        Ok(Verdict::Kept { .. }) => Tally {
             seen: tally.seen + 1,
             kept: tally.kept + 1,
-            dropped: tally.dropped,
-            refused: tally.refused,
+            ..tally
         },
-        Judged::Dropped { spent: _ } => Tally {
+        Ok(Verdict::Dropped { .. }) => Tally {
             seen: tally.seen + 1,
-            kept: tally.kept,
             dropped: tally.dropped + 1,
-            refused: tally.refused,
+            ..tally
         },
-        Judged::Refused(refusal) => count_refusal(refusal, tally),
+        Err(Refusal::Record(_)) => Tally {
+            seen: tally.seen + 1,
+            refused: tally.refused + 1,
+            ..tally
+        },
+        Err(Refusal::Program | Refusal::Count | Refusal::Lines) => tally,
     }
 }
 
 // Judges a record with a program, and counts it.
+#[tactic(auto, unfolding(crate::specs::Judging::judge_of, crate::specs::Functions::value_of))]
 pub fn judge_with(program: &[u8], bytes: &[u8], lines: &mut [u8], tally: Tally) -> Counted
     ensures { judging_of result.judged lines.new (Some result.tally)
         ≡ our_judge program.now bytes.now lines.old (Some tally) }
 {
     if !program::is_valid(program) {
         return Counted {
-            judged: Judged::Refused(Refusal::Program),
+            judged: Err(Refusal::Program),
             tally,
         };
     }
     if is_full(tally) {
         return Counted {
-            judged: Judged::Refused(Refusal::Count),
+            judged: Err(Refusal::Count),
             tally,
         };
     }
     let judged = judge_valid(program, bytes, lines);
-    let tally = count(judged, tally);
-    Counted { judged, tally }
+    Counted {
+        judged,
+        tally: count(judged, tally),
+    }
 }
 
 // Judges a record with a program, and counts it in the tally that is lent.
-pub fn judge_counted(program: &[u8], bytes: &[u8], lines: &mut [u8], tally: &mut Tally) -> Judged
+pub fn judge_counted(
+    program: &[u8],
+    bytes: &[u8],
+    lines: &mut [u8],
+    tally: &mut Tally,
+) -> Result<Verdict, Refusal>
     ensures { judging_of result lines.new (Some tally.new)
         ≡ our_judge program.now bytes.now lines.old (Some tally.old) }
 {

@@ -9,16 +9,16 @@ use lib.ListN.{length}
 use borrow.Author.Tests.{lt-leb, le-leb}
 use Rattle.octets.specs.Writes.{last_place, up_to, Written}
 use Rattle.octets.proofs.Writes.{up_to_in, up_to_out, sets_past, sets_start}
-use Rattle.line.specs.declared.Wrote.{Wrote}
-use Rattle.line.specs.declared.Wrote.TheVariants.{Bytes, Short}
+use Rattle.std.specs.Prelude.{Result, Ok, Err}
+use Rattle.line.specs.declared.Short.{Short}
 use Rattle.line.specs.Answer.{writing_of, writing}
 
 -- an answer and a buffer are as writing a text over a buffer asks
-abbrev Answers : List ℕ → List ℕ → Wrote → List ℕ → Type 0
+abbrev Answers : List ℕ → List ℕ → Result ℕ Short → List ℕ → Type 0
 Answers text old r new = writing_of r new ≡ writing text old
 
 -- a text that fits is written
-pub fitting : {text old new : List ℕ} {r : ℕ} → length text ≤ length old → Written old 0 text new r → Answers text old (Bytes r) new
+pub fitting : {text old new : List ℕ} {r : ℕ} → length text ≤ length old → Written old 0 text new r → Answers text old (Ok r) new
 fitting {text} {old} {new} {r} h w =
     let e : r ≡ length text = w.place ∙ ap up_to (zero-add (length text)) ∙ up_to_in (length text) (omega (arith, w.sized)) in
     rw (le-leb _ _ h, e, w.laid ∙ sets_start text old h)
@@ -39,7 +39,7 @@ module _ {text part : List ℕ} {need : ℕ} (v : Written [] 0 text part need) w
       (omega (arith, lt_of_not-le h), λ k. absurd (omega arith))
 
   -- a buffer that is shorter stays as it is
-  pub too_short : (old : List ℕ) → length (part ++ old) < need → Answers text old Short (part ++ old)
+  pub too_short : {short : Short} (old : List ℕ) → length (part ++ old) < need → Answers text old (Err short) (part ++ old)
   too_short old h =
       let k : length old < need = rw untouched at h in
       let g : length old < length text = omega (arith, (measured (dec_le (length text) last_place)).0) in
@@ -47,7 +47,7 @@ module _ {text part : List ℕ} {need : ℕ} (v : Written [] 0 text part need) w
 
   -- any other has the text written
   pub long_enough : (old : List ℕ) {new : List ℕ} {r : ℕ} → length old < last_place → need ≤ length (part ++ old) → Written (part ++ old) 0 text new r
-      → Answers text old (Bytes need) new
+      → Answers text old (Ok need) new
   long_enough old {new} {r} s h w =
       let k : need ≤ length old = rw untouched at h in
       let e : need ≡ length text = (measured (dec_le (length text) last_place)).1 (omega arith) in

@@ -12,7 +12,7 @@ use Rattle.octets.proofs.Numbers.{number_lt}
 use Rattle.network.specs.Networks.{address_bits}
 use Rattle.aspath.specs.declared.Width.{Width}
 use Rattle.message.specs.declared.Parts.{Parts}
-use Rattle.message.specs.declared.Decoded.TheVariants.{Read}
+use Rattle.std.specs.Prelude.{Ok}
 use Rattle.message.specs.Message.{Message, update}
 use Rattle.message.specs.Represents.{Represents, message_limit}
 use Rattle.message.specs.Fields.{width_of, frame_start, peer_address_field, frame, message_type, body_start}
@@ -50,11 +50,11 @@ parts_short w {s} o x = go (ℕ_discrete (message_type (frame w s)) update)
     })
     go (no n) = simp (ne_eqb _ _ n) (record { sections = omega arith; address = below })
 
-read_short : {s : List ℕ} {p : Parts} → Octets s → decode_of s ≡ Read p → Short p
+read_short : {s : List ℕ} {p : Parts} → Octets s → decode_of s ≡ Ok p → Short p
 read_short {s} o e = let x = read_passes s e in rw x.1 (parts_short (width_of s) o x.0.rest)
 
 -- the room is ample for a record that is read
-pub ample_readable : {s : List ℕ} {p : Parts} → Octets s → decode_of s ≡ Read p → (room : ℕ) → line_room ≤ room → is_ample p room ≡ true
+pub ample_readable : {s : List ℕ} {p : Parts} → Octets s → decode_of s ≡ Ok p → (room : ℕ) → line_room ≤ room → is_ample p room ≡ true
 ample_readable {s} {p} o e room h =
     let f = (read_short o e).sections in
     let withdrawn : p.withdrawn.len ≤ message_limit = omega arith in

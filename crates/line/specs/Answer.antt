@@ -1,10 +1,9 @@
 -- What writing a text into a lent buffer answers and leaves.
-use Rattle.std.specs.Prelude.{ℕ, ◌+◌, Bool, false, List, ◌++◌, length, drop, leb, ltb}
+use Rattle.std.specs.Prelude.{ℕ, ◌+◌, Bool, false, List, ◌++◌, length, drop, leb, ltb, Result, Ok, Err}
 use Rattle.octets.specs.Choice.{pick}
 use Rattle.message.specs.declared.Parts.{Parts}
 use Rattle.message.specs.Represents.{message_limit}
-use Rattle.line.specs.declared.Wrote.{Wrote}
-use Rattle.line.specs.declared.Wrote.TheVariants.{Bytes, Short}
+use Rattle.line.specs.declared.Short.{Short}
 
 -- the room that suffices for the lines of every readable record
 abbrev pub line_room : ℕ
@@ -21,9 +20,9 @@ pub record Writing : Type 0 where
   pub buffer : List ℕ
 
 -- what the code's answer says, with the buffer afterwards
-abbrev pub writing_of : Wrote → List ℕ → Writing
-writing_of (Bytes n) buffer = record { number = 0; written = n; buffer = buffer }
-writing_of Short buffer = record { number = short_number; written = 0; buffer = buffer }
+abbrev pub writing_of : Result ℕ Short → List ℕ → Writing
+writing_of (Ok n) buffer = record { number = 0; written = n; buffer = buffer }
+writing_of (Err short) buffer = record { number = short_number; written = 0; buffer = buffer }
 
 -- a text goes over the start of a buffer that has room for it; else the buffer stays as it was
 abbrev pub writing : List ℕ → List ℕ → Writing

@@ -26,12 +26,9 @@ use network::Networks;
 // The room that suffices for the lines of every readable record.
 pub const LINE_ROOM: usize = 65536;
 
-// The bytes that the lines take, or that the buffer is too short for them.
-#[derive(Clone, Copy)]
-pub enum Wrote {
-    Bytes(usize),
-    Short,
-}
+// The buffer is too short for the lines.
+#[derive(Clone, Copy, Debug, PartialEq, Eq)]
+pub struct Short;
 
 // The prefixes of a section with spaces between.
 fn put_prefixes(out: &mut [u8], at: usize, s: &[u8]) -> usize
@@ -286,32 +283,24 @@ fn ample(parts: Parts, room: usize) -> bool
     let withdrawn = parts.withdrawn.len;
     let attributes = parts.attributes.len;
     let announced = parts.announced.len;
-    if room < LINE_ROOM {
-        return false;
-    }
-    if MESSAGE_LIMIT < withdrawn {
-        return false;
-    }
-    if MESSAGE_LIMIT < attributes {
-        return false;
-    }
-    if MESSAGE_LIMIT < announced {
-        return false;
-    }
-    withdrawn + attributes + announced <= MESSAGE_LIMIT
+    LINE_ROOM <= room
+        && withdrawn <= MESSAGE_LIMIT
+        && attributes <= MESSAGE_LIMIT
+        && announced <= MESSAGE_LIMIT
+        && withdrawn + attributes + announced <= MESSAGE_LIMIT
 }
 
-// The lines of a message at the start of a buffer. One that is too short for both stays as it is.
-pub fn write(s: &[u8], parts: Parts, out: &mut [u8]) -> Wrote
+// Writes the lines of a message at the start of a buffer, and answers their bytes. A buffer that is too short for both stays as it is.
+pub fn write(s: &[u8], parts: Parts, out: &mut [u8]) -> Result<usize, Short>
     ensures { writing_of result out.new ≡ writing (lines_of (message_at s.now parts)) out.old }
 {
     if ample(parts, out.len()) {
-        return Wrote::Bytes(put_lines(out, 0, s, parts));
+        return Ok(put_lines(out, 0, s, parts));
     }
     let need = put_lines(&mut out[..0], 0, s, parts);
     if out.len() < need {
-        return Wrote::Short;
+        return Err(Short);
     }
     put_lines(out, 0, s, parts);
-    Wrote::Bytes(need)
+    Ok(need)
 }

@@ -11,8 +11,7 @@ use Rattle.octets.specs.Choice.{pick}
 use Rattle.aspath.specs.declared.Width.{Width}
 use Rattle.message.specs.declared.Parts.{Parts}
 use Rattle.message.specs.declared.Refusal.{Refusal}
-use Rattle.message.specs.declared.Decoded.{Decoded}
-use Rattle.message.specs.declared.Decoded.TheVariants.{Read, Refused}
+use Rattle.std.specs.Prelude.{Result, Ok, Err}
 use Rattle.message.specs.Message.{update}
 use Rattle.message.specs.Fields.{width_of, frame, message_type, body, withdrawn_in, attributes_in, announced_in}
 use Rattle.message.specs.Decode.{wrong_size, wrong_mrt_type, wrong_peer, wrong_frame, wrong_sections, wrong_attributes, wrong_body, wrong_prefix, other_parts, update_parts, update_of, message_of, decode_of}
@@ -40,7 +39,7 @@ pub record Passes (s : List ℕ) : Type 0 where
 
 -- ---- where the checks pass, the record is read
 
-update_read : {w : Width} (s : List ℕ) → RightUpdate w (body w s) → update_of w s ≡ Read (update_parts w s)
+update_read : {w : Width} (s : List ℕ) → RightUpdate w (body w s) → update_of w s ≡ Ok (update_parts w s)
 unfolding update_of
 update_read {w} s u =
     let b = body w s in
@@ -51,28 +50,28 @@ update_read {w} s u =
       prefix_complete (withdrawn_in b) (announced_in b) u.withdrawn_whole u.announced_whole,
     )
 
-message_read : {w : Width} {s : List ℕ} → PassesAt w s → message_of w s ≡ Read (parts_at w s)
+message_read : {w : Width} {s : List ℕ} → PassesAt w s → message_of w s ≡ Ok (parts_at w s)
 unfolding message_of parts_at
 message_read {w} {s} x = simp (peer_complete x.peer, frame_complete x.framed) (go (ℕ_discrete (message_type (frame w s)) update))
   where
     go : Dec (message_type (frame w s) ≡ update)
-        → pick (eqb (message_type (frame w s)) update) (update_of w s) (Read (other_parts w s)) ≡ Read (pick (eqb (message_type (frame w s)) update) (update_parts w s) (other_parts w s))
+        → pick (eqb (message_type (frame w s)) update) (update_of w s) (Ok (other_parts w s)) ≡ Ok (pick (eqb (message_type (frame w s)) update) (update_parts w s) (other_parts w s))
     go (yes e) = simp (eq-eqb _ _ e) (update_read s (x.updated e))
     go (no n) = simp (ne_eqb _ _ n)
 
 -- a record that passes every check is read
-pub passes_read : {s : List ℕ} → Passes s → decode_of s ≡ Read (parts_of s)
+pub passes_read : {s : List ℕ} → Passes s → decode_of s ≡ Ok (parts_of s)
 unfolding decode_of
 passes_read x = simp (size_complete x.size, mrt_type_complete x.mrt_type) (message_read x.rest)
 
 -- ---- a record that is read passes the checks
 
 -- a check that is followed by an answer passes
-passed : (b : Bool) (r : Refusal) {x : Decoded} {p : Parts} → pick b (Refused r) x ≡ Read p → (b ≡ false) × (x ≡ Read p)
+passed : (b : Bool) (r : Refusal) {x : Result Parts Refusal} {p : Parts} → pick b (Err r) x ≡ Ok p → (b ≡ false) × (x ≡ Ok p)
 passed true r e = let z : ◌≡◌ {A = ℕ} 0 1 = cc in absurd (omega arith)
 passed false r e = (refl, e)
 
-read_update : (w : Width) (s : List ℕ) {p : Parts} → update_of w s ≡ Read p → RightUpdate w (body w s) × (p ≡ update_parts w s)
+read_update : (w : Width) (s : List ℕ) {p : Parts} → update_of w s ≡ Ok p → RightUpdate w (body w s) × (p ≡ update_parts w s)
 unfolding update_of
 read_update w s e =
     let b = body w s in
@@ -93,7 +92,7 @@ read_update w s e =
       cc v.1,
     )
 
-read_message : (w : Width) (s : List ℕ) {p : Parts} → message_of w s ≡ Read p → PassesAt w s × (p ≡ parts_at w s)
+read_message : (w : Width) (s : List ℕ) {p : Parts} → message_of w s ≡ Ok p → PassesAt w s × (p ≡ parts_at w s)
 unfolding message_of parts_at
 read_message w s {p} e =
     let x = passed (wrong_peer w s) _ e in
@@ -101,17 +100,17 @@ read_message w s {p} e =
     go (peer_sound w s x.0) (frame_sound (frame w s) y.0) (ℕ_discrete (message_type (frame w s)) update) y.1
   where
     go : RightPeer w s → RightFrame (frame w s) → Dec (message_type (frame w s) ≡ update)
-        → pick (eqb (message_type (frame w s)) update) (update_of w s) (Read (other_parts w s)) ≡ Read p
+        → pick (eqb (message_type (frame w s)) update) (update_of w s) (Ok (other_parts w s)) ≡ Ok p
         → PassesAt w s × (p ≡ pick (eqb (message_type (frame w s)) update) (update_parts w s) (other_parts w s))
     go a b (yes k) f =
         let u = read_update w s (simp (eq-eqb _ _ k) at f) in
         (record { peer = a; framed = b; updated = λ h. u.0 }, simp (eq-eqb _ _ k) u.1)
     go a b (no n) f =
-        let g : Read (other_parts w s) ≡ Read p = simp (ne_eqb _ _ n) at f in
+        let g : Ok (other_parts w s) ≡ Ok p = simp (ne_eqb _ _ n) at f in
         (record { peer = a; framed = b; updated = λ h. absurd (n h) }, simp (ne_eqb _ _ n) (cc))
 
 -- a record that is read passes every check, and the answer is its parts
-pub read_passes : (s : List ℕ) {p : Parts} → decode_of s ≡ Read p → Passes s × (p ≡ parts_of s)
+pub read_passes : (s : List ℕ) {p : Parts} → decode_of s ≡ Ok p → Passes s × (p ≡ parts_of s)
 unfolding decode_of
 read_passes s e =
     let x = passed (wrong_size s) _ e in

@@ -6,14 +6,17 @@ use mathlib.Core.Path.{◌≡◌, ◌∙◌}
 use mathlib.Core.Bool.{false}
 use mathlib.Core.List.{List}
 use lib.ListN.{length, length-drop}
+use lib.Seq.{get_or-drop}
 use lib.Dec.{leb}
 use Rattle.octets.specs.Choice.{pick}
 use Rattle.octets.specs.Numbers.{widest_number, number_at}
+use Rattle.octets.proofs.Numbers.{number_one}
 use Rattle.network.specs.Networks.{address_size}
 use Rattle.aspath.specs.declared.Width.{Width}
 use Rattle.aspath.specs.Wire.{width_bytes}
 use Rattle.header.specs.Header.{header_size}
-use Rattle.message.specs.Fields.{peer_as_field, frame_start, body_start, body, withdrawn_size, attributes_size}
+use Rattle.message.specs.Represents.{marker_size}
+use Rattle.message.specs.Fields.{peer_as_field, frame_start, frame, message_type, body_start, body, withdrawn_size, attributes_size}
 use Rattle.message.specs.Decode.{wrong_sections}
 use Rattle.message.proofs.Checks.{sections_sound}
 
@@ -29,6 +32,10 @@ module _ (w : Width) (start : ℕ) (e : start ≡ frame_start w) where
 
   pub address_place : start - 2 * address_size ≡ header_size + 2 * width_bytes w + 4
   address_place = omega arith
+
+-- the byte of the message's type, counted from the frame as the code does
+pub type_place : (w : Width) (s : List ℕ) (start : ℕ) → start ≡ frame_start w → number_at s (start + (marker_size + 2)) 1 ≡ message_type (frame w s)
+type_place w s start e = simp (number_one, get_or-drop, e)
 
 -- sections that aren't wrong lie within the record
 pub sections_within : (w : Width) (s : List ℕ) → wrong_sections (body w s) ≡ false

@@ -1,15 +1,16 @@
 -- Laws of a run of bytes 0xFF: what `ones` decides, and a byte at a time. Assumes nothing.
-use Prim.Native.Nat.{ℕ, suc, ◌+◌, zero}
+use Prim.Native.Nat.{ℕ, suc, zero}
 use Rattle.message.specs.Decode.{ones}
+use Rattle.octets.specs.Choice.{pick}
 use Rattle.octets.proofs.Choices.{never, each}
 use borrow.Author.Tests.{eq-eqb, eqb-true, ne_eqb}
 use lib.Dec.{eqb}
-use lib.ListN.{get_or, drop, take, replicate}
-use lib.Seq.{get_or-drop, drop-drop}
+use lib.ListN.{take, replicate}
+use lib.Pointwise.{pointwise}
 use mathlib.Core.Bool.{false, true}
 use mathlib.Core.List.{List, [], ◌∷◌}
 use mathlib.Core.Path.{◌≡◌, refl, sym}
-use native.Mathlib.Nat.{add-zero}
+use native.Mathlib.Decide.{ℕ_discrete}
 
 -- where the test holds, they are
 pub ones_sound : (n : ℕ) (l : List ℕ) → ones n l ≡ true → take n l ≡ replicate n 255
@@ -30,12 +31,14 @@ ones_complete (suc n) (b ∷ l) e =
     let t : take n l ≡ replicate n 255 = cc in
     simp (eq-eqb _ _ h) (ones_complete n l t)
 
--- where the byte at i is 0xFF, the run from i on is the run after it
-pub ones_next : (m : List ℕ) (i k n : ℕ) → k ≡ suc n → get_or m i 0 ≡ 255 → ones k (drop i m) ≡ ones n (drop (i + 1) m)
+-- it is what the comparison with as many bytes 0xFF finds
+pub ones_equal : (n : ℕ) (l : List ℕ) → pointwise eqb (replicate n 255) (take n l) ≡ ones n l
 unfolding ones
-ones_next m i k n e h = rw e (simp (get_or-drop, add-zero, eq-eqb _ _ h, drop-drop))
-
--- where it isn't, there is no run
-pub ones_not : (m : List ℕ) (i k n : ℕ) → k ≡ suc n → (get_or m i 0 ≡ 255 → ⊥) → ones k (drop i m) ≡ false
-unfolding ones
-ones_not m i k n e h = rw e (simp (get_or-drop, add-zero, ne_eqb _ _ h))
+ones_equal zero l = refl
+ones_equal (suc n) [] = refl
+ones_equal (suc n) (b ∷ l) = go (ℕ_discrete b 255) (ones_equal n l)
+  where
+    go : Dec (b ≡ 255) → pointwise eqb (replicate n 255) (take n l) ≡ ones n l
+        → pointwise eqb (replicate (suc n) 255) (b ∷ take n l) ≡ pick (eqb b 255) (ones n l) false
+    go (yes e) h = rw e h
+    go (no k) h = simp (ne_eqb _ _ k, ne_eqb _ _ (λ (e : 255 ≡ b). k (sym e)))

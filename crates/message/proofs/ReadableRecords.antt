@@ -4,7 +4,7 @@ use mathlib.Core.Path.{◌≡◌}
 use mathlib.Core.List.{List}
 use Rattle.octets.specs.Numbers.{Octets}
 use Rattle.message.specs.declared.Parts.{Parts}
-use Rattle.message.specs.declared.Decoded.TheVariants.{Read}
+use Rattle.std.specs.Prelude.{Ok}
 use Rattle.message.specs.Message.{Message}
 use Rattle.message.specs.Represents.{Represents}
 use Rattle.message.specs.Refusals.{Readable}
@@ -24,5 +24,5 @@ readable_represents {s} o h =
     (message_at s p.0, read_represents o p.1)
 
 -- what decoding answers of a message's record stands for that message
-pub decoded_is : {m : Message} {s : List ℕ} {p : Parts} → Represents m s → decode_of s ≡ Read p → message_at s p ≡ m
+pub decoded_is : {m : Message} {s : List ℕ} {p : Parts} → Represents m s → decode_of s ≡ Ok p → message_at s p ≡ m
 decoded_is r e = represents_one (read_represents (represents_octets r) e) r

@@ -16,7 +16,7 @@ use Rattle.aspath.specs.declared.Width.TheVariants.{Two, Four}
 use Rattle.aspath.specs.Wire.{width_bytes}
 use Rattle.attributes.specs.Bodies.{attributes_of}
 use Rattle.message.specs.declared.Parts.{Parts}
-use Rattle.message.specs.declared.Decoded.TheVariants.{Read}
+use Rattle.std.specs.Prelude.{Ok}
 use Rattle.message.specs.Message.{Message, update}
 use Rattle.message.specs.Represents.{frame_header, bgp4mp, subtype_of, BodyBytes, is_update, is_other, Represents}
 use Rattle.header.specs.Header.{subtype_field, seconds_field, type_field}
@@ -101,7 +101,7 @@ pub represents_size : {m : Message} {s : List ℕ} → Represents m s → length
 represents_size r = let f = represents_fields r in fields_size f (frame_fields f.frame_is).right
 
 -- a message's record is read, and what is read of it is the message
-pub represents_read : {m : Message} {s : List ℕ} → Represents m s → (decode_of s ≡ Read (parts_of s)) × (message_at s (parts_of s) ≡ m)
+pub represents_read : {m : Message} {s : List ℕ} → Represents m s → (decode_of s ≡ Ok (parts_of s)) × (message_at s (parts_of s) ≡ m)
 represents_read {m} {s} r =
     let f = represents_fields r in
     let g = frame_fields f.frame_is in
@@ -164,5 +164,5 @@ passes_message {s} o x = go (ℕ_discrete (message_type (frame w s)) update)
         (is_other n (record { octets = octets_drop (body_start w) o; no_withdrawn = unfold items_in in refl; no_attributes = unfold items_in in refl; no_announced = unfold items_in in refl })))
 
 -- what is read of bytes is a message whose record they are
-pub read_represents : {s : List ℕ} {p : Parts} → Octets s → decode_of s ≡ Read p → Represents (message_at s p) s
+pub read_represents : {s : List ℕ} {p : Parts} → Octets s → decode_of s ≡ Ok p → Represents (message_at s p) s
 read_represents {s} o e = let x = read_passes s e in rw x.1 (passes_message o x.0)

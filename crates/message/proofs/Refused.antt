@@ -12,7 +12,7 @@ use Rattle.octets.proofs.Bytes.{octets_drop, octets_take}
 use Rattle.message.specs.declared.Parts.{Parts}
 use Rattle.message.specs.declared.Refusal.{Refusal}
 use Rattle.message.specs.declared.Refusal.TheVariants.{Size, MrtType, Peer, Frame, Sections, Attributes, Body, Prefix}
-use Rattle.message.specs.declared.Decoded.TheVariants.{Read, Refused}
+use Rattle.std.specs.Prelude.{Ok, Err}
 use Rattle.message.specs.Message.{update}
 use Rattle.message.specs.Fields.{width_of, frame, message_type, body_start, body, withdrawn_size, attributes_size, attributes_in}
 use Rattle.message.specs.Refusals.{number, InUpdate, Row, rows, None, end, next, RefusedWith, Readable}
@@ -65,7 +65,7 @@ decode_answers {s} o =
     (λ _. by_type (eqb (message_type (frame w s)) update) refl))))
   where
     by_type : (t : Bool) → eqb (message_type (frame (width_of s) s)) update ≡ t
-        → RowAnswers s (drop 4 rows) (pick t (update_of (width_of s) s) (Read (other_parts (width_of s) s)))
+        → RowAnswers s (drop 4 rows) (pick t (update_of (width_of s) s) (Ok (other_parts (width_of s) s)))
     by_type true h = update_answers o (eqb-true _ _ h)
     by_type false h = answers_read (other_parts (width_of s) s) (other_rows (eqb-false _ _ h))
 
@@ -73,19 +73,19 @@ decode_answers {s} o =
 
 module _ {s : List ℕ} (o : Octets s) where
   -- a record that is refused has that row as the first that holds
-  pub refused_sound : {r : Refusal} → decode_of s ≡ Refused r → RefusedWith s r
+  pub refused_sound : {r : Refusal} → decode_of s ≡ Err r → RefusedWith s r
   refused_sound e = (decode_answers o).refused e
 
   -- a record with a first row that holds is refused with it
-  pub refused_complete : {r : Refusal} → RefusedWith s r → decode_of s ≡ Refused r
+  pub refused_complete : {r : Refusal} → RefusedWith s r → decode_of s ≡ Err r
   refused_complete f = first_refused (decode_of s) (decode_answers o) f
 
   -- of a record that is read no row holds
-  pub read_sound : {p : Parts} → decode_of s ≡ Read p → Readable s
+  pub read_sound : {p : Parts} → decode_of s ≡ Ok p → Readable s
   read_sound e = (decode_answers o).read e
 
   -- a record of which no row holds is read
-  pub readable_read : Readable s → (p : Parts) × (decode_of s ≡ Read p)
+  pub readable_read : Readable s → (p : Parts) × (decode_of s ≡ Ok p)
   readable_read n = none_read (decode_of s) (decode_answers o) n
 
 -- a record is refused in one way only

@@ -7,8 +7,7 @@ use mathlib.Core.List.{List, ◌∷◌}
 use Rattle.octets.specs.Choice.{pick}
 use Rattle.message.specs.declared.Parts.{Parts}
 use Rattle.message.specs.declared.Refusal.{Refusal}
-use Rattle.message.specs.declared.Decoded.{Decoded}
-use Rattle.message.specs.declared.Decoded.TheVariants.{Read, Refused}
+use Rattle.std.specs.Prelude.{Result, Ok, Err}
 use Rattle.message.specs.Refusals.{Row, First, here, later, None, next}
 use Rattle.message.proofs.Deciding.{Decides, decides_false}
 
@@ -26,21 +25,21 @@ module _ {s : List ℕ} where
   first_none (later n f) (next k m) = first_none f m
 
 -- an answer agrees with a table: a refusal is that of the first row that holds, and where something is read no row holds
-pub record RowAnswers (s : List ℕ) (table : List Row) (d : Decoded) : Type 1 where
-  pub refused : {r : Refusal} → d ≡ Refused r → First s table r
-  pub read : {p : Parts} → d ≡ Read p → None s table
+pub record RowAnswers (s : List ℕ) (table : List Row) (d : Result Parts Refusal) : Type 1 where
+  pub refused : {r : Refusal} → d ≡ Err r → First s table r
+  pub read : {p : Parts} → d ≡ Ok p → None s table
 
 module _ {s : List ℕ} where
   -- where no row holds, what is read agrees
-  pub answers_read : {table : List Row} (p : Parts) → None s table → RowAnswers s table (Read p)
+  pub answers_read : {table : List Row} (p : Parts) → None s table → RowAnswers s table (Ok p)
   answers_read p n = record {
     refused = λ e. absurd (let z : ◌≡◌ {A = ℕ} 0 1 = cc in omega arith);
     read = λ e. n;
   }
 
   -- a check that decides its row, and after it an answer that agrees with the rows below
-  pub answers_row : {r : Row} {more : List Row} {b : Bool} {d : Decoded} → Decides b (r.condition s) → (b ≡ false → RowAnswers s more d)
-      → RowAnswers s (r ∷ more) (pick b (Refused r.refusal) d)
+  pub answers_row : {r : Row} {more : List Row} {b : Bool} {d : Result Parts Refusal} → Decides b (r.condition s) → (b ≡ false → RowAnswers s more d)
+      → RowAnswers s (r ∷ more) (pick b (Err r.refusal) d)
   answers_row {r = r} {more = more} {b = true} c f = record {
     refused = λ {r = x} e. let q : r.refusal ≡ x = cc in subst (λ (y : Refusal). First s (r ∷ more) y) q (here (c.sound refl));
     read = λ e. absurd (let z : ◌≡◌ {A = ℕ} 0 1 = cc in omega arith);
@@ -51,11 +50,11 @@ module _ {s : List ℕ} where
   }
 
   -- the answer that agrees with a table is the first row's refusal
-  pub first_refused : {table : List Row} (d : Decoded) {r : Refusal} → RowAnswers s table d → First s table r → d ≡ Refused r
-  first_refused (Read p) a f = absurd (first_none f (a.read refl))
-  first_refused (Refused x) a f = let q = first_one (a.refused refl) f in cc
+  pub first_refused : {table : List Row} (d : Result Parts Refusal) {r : Refusal} → RowAnswers s table d → First s table r → d ≡ Err r
+  first_refused (Ok p) a f = absurd (first_none f (a.read refl))
+  first_refused (Err x) a f = let q = first_one (a.refused refl) f in cc
 
   -- and where no row holds, it reads something
-  pub none_read : {table : List Row} (d : Decoded) → RowAnswers s table d → None s table → (p : Parts) × (d ≡ Read p)
-  none_read (Read p) a n = (p, refl)
-  none_read (Refused x) a n = absurd (first_none (a.refused refl) n)
+  pub none_read : {table : List Row} (d : Result Parts Refusal) → RowAnswers s table d → None s table → (p : Parts) × (d ≡ Ok p)
+  none_read (Ok p) a n = (p, refl)
+  none_read (Err x) a n = absurd (first_none (a.refused refl) n)

@@ -1,6 +1,6 @@
 -- What decoding a record answers, and what the answer's places and numbers stand for.
 use Rattle.std.specs.Prelude.{ℕ, zero, suc, ◌+◌, ◌-◌, Bool, true, false, not, List, length, get_or, drop, ltb, eqb}
-use Rattle.std.specs.Prelude.{Option, Some, None}
+use Rattle.std.specs.Prelude.{Option, Some, None, Result, Ok, Err}
 use Rattle.octets.specs.Choice.{pick}
 use Rattle.octets.specs.Parts.{part_at}
 use Rattle.octets.specs.Rows.{whole, items}
@@ -14,9 +14,8 @@ use Rattle.attributes.specs.Codes.{is_sound}
 use Rattle.attributes.specs.Bodies.{all_right, attributes_of}
 use Rattle.message.specs.declared.Part.{Part}
 use Rattle.message.specs.declared.Parts.{Parts}
+use Rattle.message.specs.declared.Refusal.{Refusal}
 use Rattle.message.specs.declared.Refusal.TheVariants.{Size, MrtType, Peer, Frame, Sections, Attributes, Body, Prefix}
-use Rattle.message.specs.declared.Decoded.{Decoded}
-use Rattle.message.specs.declared.Decoded.TheVariants.{Read, Refused}
 use Rattle.message.specs.Message.{Message, update}
 use Rattle.message.specs.Represents.{message_limit, marker_size, frame_header, ipv4, bgp4mp, subtype_of}
 use Rattle.header.specs.Header.{header_size, seconds_field, type_field, subtype_field, length_field}
@@ -116,27 +115,27 @@ update_parts w s =
     (record { start = body_start w + 4 + withdrawn_size b + attributes_size b; len = length b - (4 + withdrawn_size b + attributes_size b) })
 
 -- the checks of an UPDATE's body, down the table
-unfoldable pub update_of : Width → List ℕ → Decoded
+unfoldable pub update_of : Width → List ℕ → Result Parts Refusal
 update_of w s =
     let b = body w s in
-    pick (wrong_sections b) (Refused Sections)
-    (pick (wrong_attributes (attributes_in b)) (Refused Attributes)
-    (pick (wrong_body w (attributes_in b)) (Refused Body)
-    (pick (wrong_prefix (withdrawn_in b) (announced_in b)) (Refused Prefix)
-    (Read (update_parts w s)))))
+    pick (wrong_sections b) (Err Sections)
+    (pick (wrong_attributes (attributes_in b)) (Err Attributes)
+    (pick (wrong_body w (attributes_in b)) (Err Body)
+    (pick (wrong_prefix (withdrawn_in b) (announced_in b)) (Err Prefix)
+    (Ok (update_parts w s)))))
 
 -- the checks after the header, down the table
-unfoldable pub message_of : Width → List ℕ → Decoded
+unfoldable pub message_of : Width → List ℕ → Result Parts Refusal
 message_of w s =
-    pick (wrong_peer w s) (Refused Peer)
-    (pick (wrong_frame (frame w s)) (Refused Frame)
+    pick (wrong_peer w s) (Err Peer)
+    (pick (wrong_frame (frame w s)) (Err Frame)
     (pick (eqb (message_type (frame w s)) update) (update_of w s)
-    (Read (other_parts w s))))
+    (Ok (other_parts w s))))
 
-unfoldable pub decode_of : List ℕ → Decoded
+unfoldable pub decode_of : List ℕ → Result Parts Refusal
 decode_of s =
-    pick (wrong_size s) (Refused Size)
-    (pick (wrong_mrt_type s) (Refused MrtType)
+    pick (wrong_size s) (Err Size)
+    (pick (wrong_mrt_type s) (Err MrtType)
     (message_of (width_of s) s))
 
 -- ---- as a number
@@ -146,9 +145,9 @@ pub record Decoding : Type 0 where
   pub number : ℕ
   pub parts : Option Parts
 
-abbrev pub decoding_of : Decoded → Decoding
-decoding_of (Read parts) = record { number = 0; parts = Some parts }
-decoding_of (Refused why) = record { number = number_of why; parts = None }
+abbrev pub decoding_of : Result Parts Refusal → Decoding
+decoding_of (Ok parts) = record { number = 0; parts = Some parts }
+decoding_of (Err why) = record { number = number_of why; parts = None }
 
 abbrev pub our_decoding : List ℕ → Decoding
 our_decoding bytes = decoding_of (decode_of bytes)

@@ -37,9 +37,9 @@ const FRAME_AFTER_TWO: usize = header::SIZE + 2 * 2 + INTERFACE_SIZE + FROM_FAMI
 const FRAME_AFTER_FOUR: usize = header::SIZE + 2 * 4 + INTERFACE_SIZE + FROM_FAMILY;
 
 // The header of a BGP message (RFC 4271, section 4.1).
-const MARKER: u8 = 255;
-
 const MARKER_SIZE: usize = 16;
+
+const MARKER: [u8; MARKER_SIZE] = [255; MARKER_SIZE];
 
 const LENGTH_SIZE: usize = 2;
 
@@ -59,7 +59,7 @@ const SECTION_LENGTH: usize = 2;
 const SECTION_LENGTHS: usize = 2 * SECTION_LENGTH;
 
 // Where a part stands in its record.
-#[derive(Clone, Copy)]
+#[derive(Clone, Copy, Debug, PartialEq, Eq)]
 pub struct Part {
     pub start: usize,
     pub len: usize,
@@ -79,57 +79,43 @@ pub struct Parts {
 }
 
 // Why a record isn't read, in the order of the table.
-#[derive(Clone, Copy)]
+#[derive(Clone, Copy, Debug, PartialEq, Eq)]
 pub enum Refusal {
-    Size,
-    MrtType,
-    Peer,
-    Frame,
-    Sections,
-    Attributes,
-    Body,
-    Prefix,
+    Size = 11,
+    MrtType = 12,
+    Peer = 13,
+    Frame = 14,
+    Sections = 15,
+    Attributes = 16,
+    Body = 17,
+    Prefix = 18,
 }
 
-#[derive(Clone, Copy)]
-pub enum Decoded {
-    Read(Parts),
-    Refused(Refusal),
-}
-
+#[tactic(auto, unfolding(crate::specs::Decode::wrong_size))]
 fn wrong_size(s: &[u8]) -> bool
     ensures { result ≡ wrong_size s.now }
 {
-    if s.len() < header::SIZE {
-        return true;
-    }
-    if RECORD_LIMIT < s.len() {
-        return true;
-    }
     let body = octets::number(s, header::LENGTH_AT, header::LENGTH_SIZE) as usize;
-    header::SIZE + body != s.len()
+    s.len() < header::SIZE || RECORD_LIMIT < s.len() || header::SIZE + body != s.len()
 }
 
+#[tactic(auto, unfolding(crate::specs::Decode::wrong_mrt_type))]
 fn wrong_mrt_type(s: &[u8]) -> bool
     ensures { result ≡ wrong_mrt_type s.now }
 {
-    if octets::number(s, header::TYPE_AT, header::TYPE_SIZE) != BGP4MP {
-        return true;
-    }
+    let mrt_type = octets::number(s, header::TYPE_AT, header::TYPE_SIZE);
     let subtype = octets::number(s, header::SUBTYPE_AT, header::SUBTYPE_SIZE);
-    if subtype == MESSAGE {
-        return false;
-    }
-    subtype != MESSAGE_AS4
+    mrt_type != BGP4MP || (subtype != MESSAGE && subtype != MESSAGE_AS4)
 }
 
 fn width_of(s: &[u8]) -> Width
     ensures { result ≡ width_of s.now }
 {
     if octets::number(s, header::SUBTYPE_AT, header::SUBTYPE_SIZE) == MESSAGE {
-        return Width::Two;
+        Width::Two
+    } else {
+        Width::Four
     }
-    Width::Four
 }
 
 // Where the BGP message starts.
@@ -142,69 +128,48 @@ fn frame_start(width: Width) -> usize
     }
 }
 
+#[tactic(auto, unfolding(crate::specs::Decode::wrong_peer))]
 fn wrong_peer(s: &[u8], width: Width) -> bool
     ensures { result ≡ wrong_peer width s.now }
 {
     let start = frame_start(width);
-    if s.len() < start {
-        return true;
-    }
-    octets::number(s, start - FROM_FAMILY, FAMILY_SIZE) != IPV4
+    s.len() < start || octets::number(s, start - FROM_FAMILY, FAMILY_SIZE) != IPV4
 }
 
-fn marker(m: &[u8]) -> bool
-    requires { marker_size ≤ length m.now }
+fn marked(m: &[u8]) -> bool
     ensures { result ≡ ones marker_size m.now }
 {
-    let mut i = 0;
-    while i < MARKER_SIZE {
-        if m[i] != MARKER {
-            return false;
-        }
-        i += 1;
-    }
-    true
+    m.starts_with(&MARKER)
 }
 
+#[tactic(auto, unfolding(crate::specs::Decode::wrong_frame))]
 fn wrong_frame(m: &[u8]) -> bool
     ensures { result ≡ wrong_frame m.now }
 {
-    if m.len() < FRAME_HEADER {
-        return true;
-    }
-    if MESSAGE_LIMIT < m.len() {
-        return true;
-    }
-    if !marker(m) {
-        return true;
-    }
+    let marked = marked(m);
     let length = octets::number(m, MARKER_SIZE, LENGTH_SIZE) as usize;
-    length != m.len()
+    m.len() < FRAME_HEADER || MESSAGE_LIMIT < m.len() || !marked || length != m.len()
 }
 
+#[tactic(auto, unfolding(crate::specs::Decode::wrong_sections))]
 fn wrong_sections(b: &[u8]) -> bool
     ensures { result ≡ wrong_sections b.now }
 {
     let withdrawn = octets::number(b, 0, SECTION_LENGTH) as usize;
-    if b.len() < SECTION_LENGTHS + withdrawn {
-        return true;
-    }
     let attributes = octets::number(b, SECTION_LENGTH + withdrawn, SECTION_LENGTH) as usize;
     b.len() < SECTION_LENGTHS + withdrawn + attributes
 }
 
+#[tactic(auto, unfolding(crate::specs::Decode::wrong_prefix))]
 fn wrong_prefix(withdrawn: &[u8], announced: &[u8]) -> bool
     ensures { result ≡ wrong_prefix withdrawn.now announced.now }
 {
-    if !network::prefixes_whole(withdrawn) {
-        return true;
-    }
-    !network::prefixes_whole(announced)
+    !network::prefixes_whole(withdrawn) || !network::prefixes_whole(announced)
 }
 
 // The parts of a message without sections: the numbers before it, and its type.
-fn other_parts(s: &[u8], width: Width, code: u32) -> Parts
-    requires { code ≡ message_type (frame width s.now) }
+#[tactic(auto, unfolding(crate::specs::Decode::other_parts))]
+fn other_parts(s: &[u8], width: Width) -> Parts
     ensures { result ≡ other_parts width s.now }
 {
     let start = frame_start(width);
@@ -214,7 +179,7 @@ fn other_parts(s: &[u8], width: Width, code: u32) -> Parts
         width,
         peer: octets::number(s, header::SIZE, aspath::width_bytes(width)),
         address: octets::number(s, start - ADDRESSES_SIZE, network::ADDRESS_SIZE),
-        code,
+        code: octets::number(s, start + TYPE_AT, TYPE_SIZE),
         withdrawn: none,
         attributes: none,
         announced: none,
@@ -222,20 +187,17 @@ fn other_parts(s: &[u8], width: Width, code: u32) -> Parts
 }
 
 // The parts of an UPDATE whose sections fit, from those without them; withdrawn and attributes are the lengths of two.
-fn update_parts(s: &[u8], width: Width, parts: Parts, withdrawn: usize, attributes: usize) -> Parts
-    requires { (parts ≡ other_parts width s.now)
-        × (withdrawn ≡ withdrawn_size (body width s.now))
-        × (attributes ≡ attributes_size (body width s.now))
-        × (body_start width + 4 + withdrawn + attributes ≤ length s.now) }
-    ensures { result ≡ update_parts width s.now }
+#[tactic(auto, unfolding(crate::specs::Decode::update_parts, crate::specs::Decode::other_parts))]
+fn update_parts(s: &[u8], parts: Parts, withdrawn: usize, attributes: usize) -> Parts
+    requires { (parts ≡ other_parts parts.width s.now)
+        × (withdrawn ≡ withdrawn_size (body parts.width s.now))
+        × (attributes ≡ attributes_size (body parts.width s.now))
+        × (body_start parts.width + 4 + withdrawn + attributes ≤ length s.now) }
+    ensures { result ≡ update_parts parts.width s.now }
 {
-    let start = frame_start(width) + FRAME_HEADER;
+    let start = frame_start(parts.width) + FRAME_HEADER;
     let announced = start + SECTION_LENGTHS + withdrawn + attributes;
     Parts {
-        seconds: parts.seconds,
-        width,
-        peer: parts.peer,
-        address: parts.address,
         code: UPDATE,
         withdrawn: Part {
             start: start + SECTION_LENGTH,
@@ -249,62 +211,66 @@ fn update_parts(s: &[u8], width: Width, parts: Parts, withdrawn: usize, attribut
             start: announced,
             len: s.len() - announced,
         },
+        ..parts
     }
 }
 
 // The checks of an UPDATE's body, and its parts, from those without sections.
-fn update(s: &[u8], width: Width, parts: Parts) -> Decoded
-    requires { parts ≡ other_parts width s.now }
-    ensures { result ≡ update_of width s.now }
+#[tactic(auto, unfolding(crate::specs::Decode::update_of, crate::specs::Decode::wrong_attributes, crate::specs::Decode::wrong_body))]
+fn update(s: &[u8], parts: Parts) -> Result<Parts, Refusal>
+    requires { parts ≡ other_parts parts.width s.now }
+    ensures { result ≡ update_of parts.width s.now }
 {
-    let b = octets::rest(s, frame_start(width) + FRAME_HEADER);
+    let b = octets::rest(s, frame_start(parts.width) + FRAME_HEADER);
     if wrong_sections(b) {
-        return Decoded::Refused(Refusal::Sections);
+        return Err(Refusal::Sections);
     }
     let withdrawn = octets::number(b, 0, SECTION_LENGTH) as usize;
     let attributes = octets::number(b, SECTION_LENGTH + withdrawn, SECTION_LENGTH) as usize;
     let section = octets::part(b, SECTION_LENGTHS + withdrawn, attributes);
     if !attributes::sound(section) {
-        return Decoded::Refused(Refusal::Attributes);
+        return Err(Refusal::Attributes);
     }
-    if !attributes::bodies_right(section, width) {
-        return Decoded::Refused(Refusal::Body);
+    if !attributes::bodies_right(section, parts.width) {
+        return Err(Refusal::Body);
     }
     let announced = octets::rest(b, SECTION_LENGTHS + withdrawn + attributes);
     if wrong_prefix(octets::part(b, SECTION_LENGTH, withdrawn), announced) {
-        return Decoded::Refused(Refusal::Prefix);
+        return Err(Refusal::Prefix);
     }
-    Decoded::Read(update_parts(s, width, parts, withdrawn, attributes))
+    Ok(update_parts(s, parts, withdrawn, attributes))
 }
 
 // The checks after the header.
-fn message(s: &[u8], width: Width) -> Decoded
+#[tactic(auto, unfolding(crate::specs::Decode::message_of))]
+fn message(s: &[u8], width: Width) -> Result<Parts, Refusal>
     ensures { result ≡ message_of width s.now }
 {
     if wrong_peer(s, width) {
-        return Decoded::Refused(Refusal::Peer);
+        return Err(Refusal::Peer);
     }
     let m = octets::rest(s, frame_start(width));
     if wrong_frame(m) {
-        return Decoded::Refused(Refusal::Frame);
+        return Err(Refusal::Frame);
     }
-    let code = octets::number(m, TYPE_AT, TYPE_SIZE);
-    let parts = other_parts(s, width, code);
-    if code == UPDATE {
-        return update(s, width, parts);
+    let parts = other_parts(s, width);
+    if parts.code == UPDATE {
+        update(s, parts)
+    } else {
+        Ok(parts)
     }
-    Decoded::Read(parts)
 }
 
 // The parts of a record's message, or the first refusal of the table that holds.
-pub fn decode(s: &[u8]) -> Decoded
+#[tactic(auto, unfolding(crate::specs::Decode::decode_of))]
+pub fn decode(s: &[u8]) -> Result<Parts, Refusal>
     ensures { decoding_of result ≡ our_decoding s.now }
 {
     if wrong_size(s) {
-        return Decoded::Refused(Refusal::Size);
+        return Err(Refusal::Size);
     }
     if wrong_mrt_type(s) {
-        return Decoded::Refused(Refusal::MrtType);
+        return Err(Refusal::MrtType);
     }
     message(s, width_of(s))
 }
@@ -317,17 +283,10 @@ pub fn part_of(s: &[u8], part: Part) -> &[u8]
 }
 
 // The number of a refusal.
-pub fn number_of(refusal: Refusal) -> u32
-    ensures { result ≡ number refusal }
-{
-    match refusal {
-        Refusal::Size => 11,
-        Refusal::MrtType => 12,
-        Refusal::Peer => 13,
-        Refusal::Frame => 14,
-        Refusal::Sections => 15,
-        Refusal::Attributes => 16,
-        Refusal::Body => 17,
-        Refusal::Prefix => 18,
+impl From<Refusal> for u32 {
+    ghost from_gives = { λ refusal n. n ≡ number refusal };
+
+    fn from(refusal: Refusal) -> u32 {
+        refusal as u32
     }
 }

@@ -18,7 +18,7 @@ use Rattle.aspath.specs.Wire.{segment_size, numbers_in, segment_of}
 use Rattle.attributes.specs.Wire.{length_width, attribute_header, body_size, attribute_size, raw_of}
 use Rattle.attributes.specs.Codes.{elem, distinct}
 use Rattle.attributes.specs.Bodies.{body_right, all_right, said}
-use Rattle.message.specs.declared.Decoded.TheVariants.{Read}
+use Rattle.std.specs.Prelude.{Ok}
 use Rattle.message.specs.Represents.{Represents}
 use Rattle.message.specs.Decode.{wrong_size, wrong_mrt_type, wrong_peer, ones, wrong_frame, wrong_sections, wrong_attributes, wrong_body, wrong_prefix, update_parts, update_of, message_of, decode_of, message_at}
 use Rattle.message.proofs.RecordReads.{read_represents}
@@ -44,7 +44,7 @@ unfolding small record_r
 record_octets = small_octets record_r refl
 
 -- its parts, by computation
-record_decoded : decode_of record_r ≡ Read (update_parts Four record_r)
+record_decoded : decode_of record_r ≡ Ok (update_parts Four record_r)
 unfolding
     record_r decode_of wrong_size wrong_mrt_type message_of wrong_peer wrong_frame ones update_of wrong_sections wrong_attributes wrong_body wrong_prefix
     number_at whole_in items_in prefix_size segment_size length_width attribute_header body_size attribute_size raw_of elem distinct body_right all_right

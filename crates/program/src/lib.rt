@@ -25,6 +25,30 @@ pub const CODE_LIMIT: u32 = 256;
 
 pub const SECOND: u32 = 1000000;
 
+// The variants of a peer and of a time, and the sides of a network in B. Each is read at one place: an enum would add its decoder and say no more
+// than the names do.
+pub const BY_AS: u32 = 1;
+
+pub const BY_ADDRESS: u32 = 2;
+
+pub const BY_BOTH: u32 = 3;
+
+pub const EQUAL: u32 = 0;
+
+pub const BELOW: u32 = 1;
+
+pub const AT_MOST: u32 = 2;
+
+pub const ABOVE: u32 = 3;
+
+pub const AT_LEAST: u32 = 4;
+
+pub const EITHER: u32 = 0;
+
+pub const ANNOUNCED: u32 = 1;
+
+pub const WITHDRAWN: u32 = 2;
+
 // The last variants of a path, an item, an item that is a number, a network, a side and a comparison.
 pub const LAST_ENDS: u32 = 3;
 
@@ -32,11 +56,11 @@ const LAST_ITEM: u32 = 2;
 
 const LAST_NUMBER: u32 = 0;
 
-pub const LAST_RELATION: u32 = 3;
+const LAST_RELATION: u32 = 3;
 
-const LAST_SIDE: u32 = 2;
+const LAST_SIDE: u32 = WITHDRAWN;
 
-const LAST_COMPARISON: u32 = 4;
+const LAST_COMPARISON: u32 = AT_LEAST;
 
 // The kinds of records, each by its number.
 #[derive(Clone, Copy, Debug, PartialEq, Eq)]
@@ -181,9 +205,9 @@ fn right_peer(f: Fields) -> bool
         return false;
     }
     match f.variant {
-        1 => f.a == 0,
-        2 => f.b == 0,
-        3 => true,
+        BY_AS => f.a == 0,
+        BY_ADDRESS => f.b == 0,
+        BY_BOTH => true,
         _ => false,
     }
 }

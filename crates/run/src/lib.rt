@@ -6,14 +6,14 @@ ghost use Rattle.judge.specs.Functions.{our_judge};
 ghost use Rattle.run.specs.Runs.{runner_of};
 ghost use Rattle.run.specs.Stepping.{stepped};
 
-use judge::{Judged, Tally};
+use judge::{Refusal, Tally, Verdict};
 use walk::Step;
 
 #[derive(Clone, Copy)]
 pub enum Ran {
     // A record was judged: the answer, the tally after it, and the place where the run goes on.
     Judged {
-        judged: Judged,
+        judged: Result<Verdict, Refusal>,
         tally: Tally,
         next: usize,
     },
@@ -35,11 +35,9 @@ pub fn run_step(program: &[u8], bytes: &[u8], at: usize, lines: &mut [u8], tally
         Step::Record { start, len } => {
             let record = walk::record_of(bytes, step);
             let counted = judge::judge_with(program, record, lines, tally);
-            let judged = counted.judged;
-            let after = counted.tally;
             Ran::Judged {
-                judged,
-                tally: after,
+                judged: counted.judged,
+                tally: counted.tally,
                 next: start + len,
             }
         }

@@ -10,7 +10,7 @@ use mathlib.Core.List.{List, [], ◌∷◌}
 use lib.ListN.{length, take, drop}
 use lib.Seq.{drop-drop}
 use lib.Dec.{eqb, leb, ltb, eqb-zero-suc, eqb-suc-suc}
-use borrow.Author.Tests.{lt-leb, ne_eqb, eqb-true, leb-true, lt-leb, le-leb, leb-true}
+use borrow.Author.Tests.{lt-leb, le-leb, ne_eqb, eqb-true, leb-true}
 use Rattle.octets.specs.Choice.{both, onward, otherwise}
 use Rattle.octets.proofs.Choices.{never, each, alike}
 use Rattle.octets.proofs.Ranges.{within}

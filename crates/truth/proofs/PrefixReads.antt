@@ -1,17 +1,12 @@
 -- Laws of the search among the prefixes of a section. Assumes nothing.
 use Prim.Native.Nat.{ℕ}
-use mathlib.Core.Path.{◌≡◌, refl, ap, ◌∙◌}
-use mathlib.Core.Bool.{true, false}
+use mathlib.Core.Path.{◌≡◌, refl}
+use mathlib.Core.Bool.{true}
 use Rattle.std.specs.Prelude.{Some}
 use mathlib.Core.List.{List}
-use lib.ListN.{drop}
 use Rattle.octets.specs.Choice.{pick}
-use Rattle.octets.proofs.Some.{passes_none, passes_here, passes_later, passes_append}
-use Rattle.octets.proofs.Rows.{items_end, items_next}
+use Rattle.octets.proofs.Some.{passes_append}
 use Rattle.network.specs.declared.Relation.{Relation}
-use Rattle.network.specs.Networks.{address_bits, Network, relates}
-use Rattle.network.specs.Wire.{prefix_size, network_of}
-use Rattle.network.proofs.Prefixes.{prefix_sizes}
 use Rattle.message.specs.declared.Parts.{Parts}
 use Rattle.message.specs.Decode.{part_of, networks_of, message_at}
 use Rattle.program.specs.declared.Fields.{Fields}

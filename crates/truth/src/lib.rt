@@ -4,7 +4,7 @@
 ghost use Rattle.std.specs.Prelude.{◌≡◌, true, ◌+◌, ◌*◌, drop, Some};
 ghost use Rattle.network.specs.Networks.{network_in};
 ghost use Rattle.aspath.specs.Members.{members};
-ghost use Rattle.aspath.specs.Wire.{width_bytes, members_of};
+ghost use Rattle.aspath.specs.Wire.{width_bytes};
 ghost use Rattle.aspath.specs.Patterns.{matches_here, matches_some};
 ghost use Rattle.aspath.specs.Cursors.{left};
 ghost use Rattle.communities.specs.Communities.{communities_of, holds_all};
@@ -30,31 +30,6 @@ use program::{Fields, Kind};
 // A second in microseconds, as times are compared.
 const SECOND: u64 = program::SECOND as u64;
 
-// The variants of a peer.
-const BY_AS: u32 = 1;
-
-const BY_ADDRESS: u32 = 2;
-
-const BY_BOTH: u32 = 3;
-
-// The variants of a time.
-const EQUAL: u32 = 0;
-
-const BELOW: u32 = 1;
-
-const AT_MOST: u32 = 2;
-
-const ABOVE: u32 = 3;
-
-const AT_LEAST: u32 = 4;
-
-// The sides of a network, in B.
-const EITHER: u32 = 0;
-
-const ANNOUNCED: u32 = 1;
-
-const WITHDRAWN: u32 = 2;
-
 // Whether an attribute of a section has a code, which is one byte.
 fn has_code(section: &[u8], code: u32) -> bool
     ensures { result ≡ elem code (codes (raws_of section.now)) }
@@ -69,9 +44,9 @@ fn same_peer(f: Fields, address: u32, number: u32) -> bool
     ensures { result ≡ peer_test f address number }
 {
     match f.variant {
-        BY_AS => number == f.b,
-        BY_ADDRESS => address == f.a,
-        BY_BOTH => address == f.a && number == f.b,
+        program::BY_AS => number == f.b,
+        program::BY_ADDRESS => address == f.a,
+        program::BY_BOTH => address == f.a && number == f.b,
         _ => false,
     }
 }
@@ -90,11 +65,11 @@ fn in_time(f: Fields, seconds: u32) -> bool
     let time = micros(seconds, 0);
     let operand = micros(f.a, f.b);
     match f.variant {
-        EQUAL => time == operand,
-        BELOW => time < operand,
-        AT_MOST => time <= operand,
-        ABOVE => operand < time,
-        AT_LEAST => operand <= time,
+        program::EQUAL => time == operand,
+        program::BELOW => time < operand,
+        program::AT_MOST => time <= operand,
+        program::ABOVE => operand < time,
+        program::AT_LEAST => operand <= time,
         _ => false,
     }
 }
@@ -132,10 +107,10 @@ fn has_prefix(f: Fields, record: &[u8], parts: Parts) -> bool
     let announced = message::part_of(record, parts.announced);
     let withdrawn = message::part_of(record, parts.withdrawn);
     match f.b {
-        EITHER => some_prefix(announced, relation, operand)
+        program::EITHER => some_prefix(announced, relation, operand)
             || some_prefix(withdrawn, relation, operand),
-        ANNOUNCED => some_prefix(announced, relation, operand),
-        WITHDRAWN => some_prefix(withdrawn, relation, operand),
+        program::ANNOUNCED => some_prefix(announced, relation, operand),
+        program::WITHDRAWN => some_prefix(withdrawn, relation, operand),
         _ => false,
     }
 }
@@ -199,33 +174,32 @@ fn is_end(variant: u32) -> bool
 }
 
 // Whether a path record's pattern matches a path; its items are the records behind it.
-fn matches(f: Fields, behind: &[u8], path: &[u8], width: Width) -> bool
+fn matches(f: Fields, behind: &[u8], path: Members) -> bool
     requires { f.kind ≡ path_kind }
-    ensures { result ≡ path_matches f behind.now (members_of (width_bytes width) path.now) }
+    ensures { result ≡ path_matches f behind.now (left path.entry) }
 {
     if program::LAST_ENDS < f.variant || !program::follows(f, behind) {
         return false;
     }
-    let members = aspath::members_of(path, width);
     let count = program::following(f);
     let end = is_end(f.variant);
     if is_start(f.variant) {
-        return matches_here(behind, count, end, members);
+        return matches_here(behind, count, end, path);
     }
-    matches_some(behind, count, end, members)
+    matches_some(behind, count, end, path)
 }
 
 // Whether a test of the path is true of one.
-fn true_of_path(f: Fields, behind: &[u8], path: &[u8], width: Width) -> bool
-    ensures { result ≡ path_test f behind.now (members_of (width_bytes width) path.now) }
+fn true_of_path(f: Fields, behind: &[u8], path: Members) -> bool
+    ensures { result ≡ path_test f behind.now (left path.entry) }
 {
     let Some(kind) = program::kind_of(f.kind) else {
         return false;
     };
     match kind {
-        Kind::Path => matches(f, behind, path, width),
-        Kind::Loops => aspath::loops(path, width),
-        Kind::Bogon => aspath::has_bogon(path, width),
+        Kind::Path => matches(f, behind, path),
+        Kind::Loops => aspath::loops(path),
+        Kind::Bogon => aspath::has_bogon(path),
         _ => false,
     }
 }
@@ -238,7 +212,7 @@ fn true_of_section(f: Fields, behind: &[u8], section: &[u8], width: Width) -> bo
     match attributes::find(section, attributes::AS_PATH) {
         Some(body) => {
             let path = octets::part(section, body.start, body.len);
-            true_of_path(f, behind, path, width)
+            true_of_path(f, behind, aspath::members_of(path, width))
         }
         None => false,
     }

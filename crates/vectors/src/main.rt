@@ -4,8 +4,6 @@
 ghost use Rattle.std.specs.Prelude.{◌≡◌};
 ghost use Rattle.walk.specs.Steps.{step_of};
 
-use line::Wrote;
-use message::Decoded;
 use network::Networks;
 use walk::Step;
 
@@ -51,16 +49,12 @@ fn say_refused(rt: &HostRuntime, n: u32) {
 
 // The lines of a record, laid into the room lent, or the refusal.
 fn tell(rt: &HostRuntime, record: &[u8], room: &mut [u8]) {
-    let decoded = message::decode(record);
-    match decoded {
-        Decoded::Refused(refusal) => say_refused(rt, message::number_of(refusal)),
-        Decoded::Read(parts) => {
-            let wrote = line::write(record, parts, room);
-            match wrote {
-                Wrote::Bytes(n) => say(rt, octets::part(room, 0, n)),
-                Wrote::Short => say_refused(rt, 19),
-            }
-        }
+    match message::decode(record) {
+        Err(refusal) => say_refused(rt, refusal.into()),
+        Ok(parts) => match line::write(record, parts, room) {
+            Ok(n) => say(rt, octets::part(room, 0, n)),
+            Err(line::Short) => say_refused(rt, 19),
+        },
     }
 }
 

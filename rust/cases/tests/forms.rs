@@ -16,9 +16,10 @@ const FORMS: [Form; 7] = [
         asks: "let .. else on the decoder's answer, and the refusal returned in the else",
         stands: refusal_in_else,
         spoilt: &[
-            ("let Decoded::Read", "match Decoded::Read"),
+            ("let Ok(parts)", "match Ok(parts)"),
             ("message::decode(", "message::frame("),
             ("return", ""),
+            ("decoded.unwrap_err()", "Refusal::Lines"),
         ],
     },
     Form {
@@ -159,13 +160,13 @@ fn branches(body: &str) -> bool {
 
 fn refusal_in_else(judge: &str) -> Option<bool> {
     let (_, body) = function(judge, "judge_valid")?;
-    let (pattern, rest) = behind(body, "let Decoded::Read")?.split_once(" else ")?;
-    let (_, answer) = pattern.split_once(" = ")?;
-    let decoder = "message::decode(";
-    let decoded =
-        has(&format!(" {answer} "), decoder) || has(body, &format!("let {answer} = {decoder}"));
+    let (answer, rest) = behind(body, "let Ok(parts) = ")?.split_once(" else ")?;
+    let answer = answer.trim();
     let (_, refusal, _) = braced(rest)?;
-    Some(decoded && !pattern.contains(';') && refusal.starts_with(" return "))
+    Some(
+        has(body, &format!("let {answer} = message::decode("))
+            && has(refusal, &format!("return Err({answer}.unwrap_err()"))
+    )
 }
 
 fn grammar_in_a_cycle(filter: &str) -> Option<bool> {

@@ -8,9 +8,6 @@ use Rattle.aspath.proofs.MeaningMembers.{same_held, other_held, alone_held}
 use Rattle.aspath.proofs.Returns.{returns_end, returns_other, returns_found, returns_same, loop_none, loop_here, loop_later}
 use Rattle.aspath.proofs.loops.Goals as goal
 
-pub search-init : goal.search-init
-search-init c = ap has_loop c.members_of-path.ensures
-
 pub returns-in_default : goal.returns-in_default
 returns-in_default c = sym (sym c.search.invariant ∙ ap has_loop c.in_default.ensures.steps.0 ∙ loop_none)
 

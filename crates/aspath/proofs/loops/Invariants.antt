@@ -3,7 +3,6 @@
 use mathlib.Core.Path.{◌≡◌}
 use mathlib.Core.Bool.{false}
 use lib.ListN.{length}
-use Rattle.aspath.specs.Wire.{width_bytes, members_of}
 use Rattle.aspath.specs.Loops.{returns_in, has_loop}
 use Rattle.aspath.specs.Cursors.{left}
 use Rattle.aspath.proofs.loops.Given as goal
@@ -12,7 +11,7 @@ abbrev pub invariant-loop-m : goal.invariant-loop-m
 invariant-loop-m l = returns_in l.other l.n (left l.m-iterator) ≡ returns_in false l.n (left l.path)
 
 abbrev pub invariant-search : goal.invariant-search
-invariant-search l = has_loop (left l.path) ≡ has_loop (members_of (width_bytes l.fn.width) l.s)
+invariant-search l = has_loop (left l.path) ≡ has_loop (left l.fn.from)
 
 abbrev pub decreases-search : goal.decreases-search
 decreases-search l = length (left l.path)

@@ -1,18 +1,24 @@
 -- `aspath::member_at` meets its contract: a segment that is sized stands, so its count and its first number are there. Assumes nothing.
 use Prim.Native.Nat.{ℕ, ◌+◌, ◌≤◌, ◌<◌}
 use native.Mathlib.Omega.{arith}
-use mathlib.Core.Path.{◌≡◌, sym, ◌∙◌}
+use mathlib.Core.Path.{◌≡◌, sym, ap, ◌∙◌}
 use mathlib.Core.List.{List}
-use lib.ListN.{length, drop}
+use lib.ListN.{length, drop, length-drop}
 use borrow.Author.Tests.{le-leb, lt-leb, eq-eqb, ne_eqb}
 use Rattle.std.specs.Prelude.{Option, Some}
 use Rattle.octets.specs.Rows.{sized}
 use Rattle.octets.proofs.Rows.{sized_some, sized_none}
+use Rattle.aspath.specs.declared.Width.{Width}
+use Rattle.aspath.specs.declared.Width.TheVariants.{Two, Four}
 use Rattle.aspath.specs.Wire.{width_bytes, segment_size}
 use Rattle.aspath.specs.Cursors.{next_at}
 use Rattle.aspath.proofs.Segments.{Stands, size_stands}
-use Rattle.aspath.proofs.member_at.Goals.{then-s-c-via-then-s-c, then-s-c-via-else-s-c+then-s-c-2}
 use Rattle.aspath.proofs.member_at.Goals as goal
+
+-- a number has bytes
+some_bytes : (width : Width) → 1 ≤ width_bytes width
+some_bytes Two = omega arith
+some_bytes Four = omega arith
 
 -- a segment with a size stands
 stands : {w at k : ℕ} {s : List ℕ} {r : Option ℕ} → r ≡ Some k → r ≡ sized (segment_size w (drop at s)) → Stands w s at
@@ -44,19 +50,16 @@ returns-then-c-eq0 c = let n = (sized_some (sym c.in_ok-segment_size.was ∙ c.s
     let w = c.width_bytes-w.ensures in
     rw (← w.0) (simp (eq-eqb _ _ c.if-c-eq0.true, ne_eqb _ _ (rw (← w.0) at n), c.number.ensures, le-leb _ _ w.1))
 
-pub returns-then-s-c : goal.returns-then-s-c
+pub returns-then-rest-w : goal.returns-then-rest-w
 unfolding next_at
-returns-then-s-c c = let a = c.args in
+returns-then-rest-w c = let a = c.args in
     let w = c.width_bytes-w in
-    let h : length a.s.now < a.c.at + w.result = elim c.then-s-c.branch [
-      | then-s-c-via-then-s-c v ↦ omega arith
-      | then-s-c-via-else-s-c+then-s-c-2 v ↦ omega arith
-    ] in
+    let h : length a.s.now < a.c.at + w.result = omega (arith, ap length c.rest.ensures, length-drop a.c.at a.s.now) in
     rw (← w.ensures.0) (simp (ne_eqb _ _ c.if-c-eq0.false, lt-leb _ _ h))
 
 pub returns : goal.returns
 unfolding next_at
 returns c = let a = c.args in
     let w = c.width_bytes-w in
-    let h : a.c.at + w.result ≤ length a.s.now = omega arith in
+    let h : a.c.at + w.result ≤ length a.s.now = omega (arith, ap length c.rest.ensures, length-drop a.c.at a.s.now, some_bytes a.width) in
     rw (← w.ensures.0) (simp (ne_eqb _ _ c.if-c-eq0.false, le-leb _ _ h, c.number-2.ensures, le-leb _ _ w.ensures.1))

@@ -1,9 +1,7 @@
 -- The one proof of the cycle {conjunction, expression, factor}: each part is read as the reader reads it. The measure is 3 for each token left, and the part's rank. Assumes nothing.
-use Prim.Native.Nat.{ℕ, ◌+◌, ◌*◌}
-use mathlib.Core.List.{List}
+use Prim.Native.Nat.{◌+◌, ◌*◌}
 use lib.ListN.{length}
 use Rattle.program.specs.Readings.{and as and·op, or as or·op}
-use Rattle.token.specs.declared.Lexeme.{Lexeme}
 use Rattle.filter.specs.Parsing.{from}
 use Rattle.filter.proofs.Sides.{Sofar}
 use Rattle.filter.proofs.+conjunction_expression_factor.Given as goal
@@ -17,18 +15,16 @@ decreases-expression l = 3 * length (from l.text.now l.t) + 2
 abbrev pub decreases-factor : goal.decreases-factor
 decreases-factor l = 3 * length (from l.text.now l.t)
 
--- the sides that were read keep what holds of them where the loop begins
+-- the sides that were read so far
 abbrev pub invariant-conjunction-loop-pass : goal.invariant-conjunction-loop-pass
-invariant-conjunction-loop-pass l =
-    (v : Lexeme) (old : List ℕ) → Sofar and·op l.text l.level v l.n old l.initial.part l.initial.out → Sofar and·op l.text l.level v l.n old l.part l.out
+invariant-conjunction-loop-pass l = Sofar and·op l.text l.level l.fn.t l.n l.fn.out l.part l.out
 
 abbrev pub decreases-conjunction-loop-pass : goal.decreases-conjunction-loop-pass
 decreases-conjunction-loop-pass l = length (from l.text l.part.next)
 
--- the sides that were read keep what holds of them where the loop begins
+-- the sides that were read so far
 abbrev pub invariant-expression-loop-pass : goal.invariant-expression-loop-pass
-invariant-expression-loop-pass l =
-    (v : Lexeme) (old : List ℕ) → Sofar or·op l.text l.level v l.n old l.initial.part l.initial.out → Sofar or·op l.text l.level v l.n old l.part l.out
+invariant-expression-loop-pass l = Sofar or·op l.text l.level l.fn.t l.n l.fn.out l.part l.out
 
 abbrev pub decreases-expression-loop-pass : goal.decreases-expression-loop-pass
 decreases-expression-loop-pass l = length (from l.text l.part.next)

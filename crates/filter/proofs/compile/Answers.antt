@@ -1,8 +1,6 @@
 -- `filter::compile` meets its contract: the answer of the text, and the buffer that goes with it. Assumes nothing.
-use borrow.Author.Rules.{rules}
-use mathlib.Core.Path.{◌≡◌}
-use Rattle.std.specs.Prelude.{Err}
 use Rattle.filter.proofs.Compiles.{put_back, given_long, given_byte, given_quote, given_closed, given_stopped, given_heavy, given_room, given_program, not_stopped}
+use Rattle.filter.proofs.Parts.{handed_on}
 use Rattle.filter.proofs.compile.Goals as goal
 
 pub returns-then-text-gt-TEXT_LIMIT : goal.returns-then-text-gt-TEXT_LIMIT
@@ -27,8 +25,7 @@ parse-requires c = (
 pub returns-in_err-weight : goal.returns-in_err-weight
 returns-in_err-weight c =
     let back = put_back c.parse.new.out c.args.program.now c.parse.auto.out in
-    let handed : c.from_residual.result ≡ Err c.in_err-weight.field-0.0 = search rules in
-    rw (handed, back) (given_stopped _ c.args.program.now c.if-text-gt-TEXT_LIMIT.false c.forbidden-byte.ensures c.if-byte-text.false
+    rw (handed_on c.from_residual.ensures.1, back) (given_stopped _ c.args.program.now c.if-text-gt-TEXT_LIMIT.false c.forbidden-byte.ensures c.if-byte-text.false
     c.unclosed-quote.ensures c.if-quote-text.false (c.parse.ensures.refused _ c.in_err-weight.was))
 
 pub returns-then-weight-gt-WEIGHT_LIMIT : goal.returns-then-weight-gt-WEIGHT_LIMIT

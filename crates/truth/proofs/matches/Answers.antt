@@ -1,14 +1,14 @@
 -- `truth::matches` meets its contract, by whether `^` stands. Assumes nothing.
 use native.Mathlib.Omega.{arith}
-use mathlib.Core.Path.{◌≡◌, refl, sym, ap, ◌∙◌}
+use mathlib.Core.Path.{◌≡◌, refl, sym, ◌∙◌}
 use mathlib.Core.Bool.{true}
 use mathlib.Core.List.{List}
 use lib.Dec.{leb}
 use borrow.Author.Tests.{lt-leb, le-leb}
 use Rattle.octets.proofs.Choices.{alike}
 use Rattle.aspath.specs.Members.{Member}
-use Rattle.aspath.specs.Wire.{width_bytes, members_of}
-use Rattle.aspath.specs.Patterns.{matches, matches_here, matches_some}
+use Rattle.aspath.specs.Cursors.{left}
+use Rattle.aspath.specs.Patterns.{matches}
 use Rattle.truth.specs.Matching.{items_in, pattern_of, path_matches}
 use Rattle.truth.proofs.ItemReads.{path_stands}
 use Rattle.truth.proofs.PathReads.{pinned, free}
@@ -37,15 +37,14 @@ matches_here-requires c = let a = c.args in
 
 pub returns-then-is_start : goal.returns-then-is_start
 returns-then-is_start c = let a = c.args in
-    let path = members_of (width_bytes a.width) a.path.now in
+    let path = left a.path in
     let follow = sym c.follows.ensures ∙ c.if-not-follows.false in
     let start = sym c.is_start.ensures ∙ c.if-is_start.true in
     rw (
       told a.f a.behind.now path _ (omega arith) follow c.following-count.ensures,
       pinned a.f _ path start,
       ← c.is_end-end.ensures,
-    )
-    (c.matches_here.ensures ∙ ap (matches_here c.is_end-end.result (items_in c.following-count.result a.behind.now)) c.members_of-members.ensures)
+    ) c.matches_here.ensures
 
 pub matches_some-requires : goal.matches_some-requires
 matches_some-requires c = let a = c.args in
@@ -53,12 +52,11 @@ matches_some-requires c = let a = c.args in
 
 pub returns : goal.returns
 returns c = let a = c.args in
-    let path = members_of (width_bytes a.width) a.path.now in
+    let path = left a.path in
     let follow = sym c.follows.ensures ∙ c.if-not-follows.false in
     let start = sym c.is_start.ensures ∙ c.if-is_start.false in
     rw (
       told a.f a.behind.now path _ (omega arith) follow c.following-count.ensures,
       free a.f _ path start,
       ← c.is_end-end.ensures,
-    )
-    (c.matches_some.ensures ∙ ap (matches_some c.is_end-end.result (items_in c.following-count.result a.behind.now)) c.members_of-members.ensures)
+    ) c.matches_some.ensures
