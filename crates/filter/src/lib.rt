@@ -45,7 +45,7 @@ pub struct Refused {
 }
 
 // What a word says.
-#[derive(Clone, Copy)]
+#[derive(Clone, Copy, Debug, PartialEq, Eq)]
 enum Role {
     And,
     Or,
