@@ -50,14 +50,32 @@ def tokens_of(text, start, end):
     return found
 
 
+FUNCTION = re.compile(
+    r'^(?P<indent>    )?(?P<public>pub )?(?:extern "C" )?fn (?P<name>\w+)(?:<(?:[^<>]|->|<[^<>]*>)*>)?\((?P<parameters>.*?)\)'
+    r"[^{;]*?(?:\{\n|\n(?: +(?:requires|ensures|ghost) [^\n]*\n)+ *\{\n)",
+    re.M | re.S,
+)
+
+
+def owner(text, at):
+    """The type whose impl a method at a place stands in."""
+    return re.findall(r"^impl\b[^\n]*?(\w+)(?:<[^\n]*>)? \{$", text[:at], re.M)[-1]
+
+
 def items_of(text):
-    """The items of a formatted file: a body stands between a line '{' or one that ends in '{', and a line '}'."""
+    """The items of a formatted file: a body stands between a line '{' or one that ends in '{', and a line '}', both indented in an impl."""
     items = []
-    for m in re.finditer(r'^(pub )?(?:extern "C" )?fn (\w+)(?:<[^>]*>)?\((.*?)\)[^{;]*?(?:\{\n|\n(?:    (?:requires|ensures|ghost) [^\n]*\n)+\{\n)', text, re.M | re.S):
-        end = text.index("\n}", m.end() - 1)
-        parameters = re.findall(r"(\w+): ", m.group(3))
-        lent = re.findall(r"(\w+): &(?:'\w+ )?mut ", m.group(3))
-        items.append(Item(m.group(2), bool(m.group(1)), m.start(), tokens_of(text, m.end(), end), parameters, (m.end(3), m.end()), lent))
+    for m in FUNCTION.finditer(text):
+        indent, declared = m["indent"] or "", m["parameters"]
+        end = text.index(f"\n{indent}}}", m.end() - 1)
+        name = f"{owner(text, m.start())}::{m['name']}" if indent else m["name"]
+        parameters = re.findall(r"(\w+): ", declared)
+        lent = re.findall(r"(\w+): &(?:'\w+ )?mut ", declared)
+        contract = (m.end("parameters"), m.end())
+        items.append(Item(name, bool(m["public"]), m.start(), tokens_of(text, m.end(), end), parameters, contract, lent))
+    for m in re.finditer(r"^    \w+ = (\d+),$", text, re.M):
+        name = re.findall(r"^(?:pub )?enum (\w+) \{$", text[: m.start()], re.M)[-1]
+        items.append(Item(name, False, m.start(), tokens_of(text, m.start(1), m.end(1))))
     for m in re.finditer(r"^(pub )?const (\w+): [^=]*=(.*?);$", text, re.M | re.S):
         items.append(Item(m.group(2), False, m.start(), tokens_of(text, m.start(3), m.end(3))))
     return sorted(items, key=lambda item: item.start)

@@ -12,7 +12,8 @@ pub struct Range {
     pub high: u32,
 }
 
-// What a search of a table told: whether some range holds the number, and how often the number was compared with a bound.
+// What a search of a table told: whether some range holds the number, and how often the number was compared with a bound. No Option: the
+// comparisons are told where no range holds it too.
 #[derive(Clone, Copy, Debug, PartialEq, Eq)]
 pub struct Lookup {
     pub found: bool,

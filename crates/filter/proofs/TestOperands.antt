@@ -7,7 +7,6 @@ use Rattle.std.specs.Prelude.{Option, Some, None}
 use mathlib.Core.List.{List, map}
 use lib.ListN.{length, length-append, length-map}
 use Rattle.aspath.specs.declared.Item.TheVariants.{Number}
-use Rattle.program.specs.declared.Fields.{Fields}
 use Rattle.program.specs.Readings.{Test}
 use Rattle.program.specs.Records.{item}
 use Rattle.program.specs.Layout.{head_fields}
@@ -25,7 +24,8 @@ use Rattle.filter.specs.Parsing.{operand_sort}
 use borrow.Author.Tests.{le-ltb}
 use Rattle.octets.proofs.Choices.{never}
 use Rattle.operand.specs.declared.Name.{Name}
-use Rattle.operand.specs.declared.Meant.TheVariants.{Head, Broken}
+use Rattle.operand.specs.declared.Head.{Head}
+use Rattle.operand.proofs.Holding.{some_once}
 use Rattle.operand.specs.Tests.{StandsFor, type, attribute, path, peer, network, time, communities, meaning, operand_meaning, meant_of}
 use Rattle.operand.proofs.PartedLaws.{parted_short}
 use Rattle.operand.proofs.OperandItems.{item_reads}
@@ -52,25 +52,27 @@ offered text o e = go o.sort refl e
     go Unclosed k e = never e
 
 -- the test that an answer's head is of, and how many records follow that
-pub record Headed (k : Name) (v : List ℕ) (f : Fields) (n : ℕ) : Type 0 where
+pub record Headed (k : Name) (v : List ℕ) (h : Head) : Type 0 where
   pub test : Test
   pub means : operand_meaning k v ≡ Some test
-  pub head : f ≡ head_fields (head_of test)
-  pub following : n ≡ length (following_of test)
+  pub head : h.fields ≡ head_fields (head_of test)
+  pub following : h.following ≡ length (following_of test)
 
 -- a head was answered
-pub headed : (k : Name) (v : List ℕ) {f : Fields} {n : ℕ} → Head f n ≡ meant_of (operand_meaning k v) → Headed k v f n
-headed k v {f} {n} e = go (operand_meaning k v) refl e
+pub headed : (k : Name) (v : List ℕ) {h : Head} → Some h ≡ meant_of (operand_meaning k v) → Headed k v h
+headed k v {h} e = go (operand_meaning k v) refl e
   where
-    go : (o : Option Test) → operand_meaning k v ≡ o → Head f n ≡ meant_of o → Headed k v f n
+    go : (o : Option Test) → operand_meaning k v ≡ o → Some h ≡ meant_of o → Headed k v h
     go None m e = let z : ◌≡◌ {A = ℕ} 0 1 = cc in absurd (omega arith)
-    go (Some x) m e = record { test = x; means = m; head = cc; following = cc }
+    go (Some x) m e =
+        let q : h ≡ record { fields = head_fields (head_of x); following = length (following_of x) } = some_once {o = Some h} refl e in
+        record { test = x; means = m; head = ap (λ (i : Head). i.fields) q; following = ap (λ (i : Head). i.following) q }
 
 -- the operand breaks its test's rule
-pub none_meant : (k : Name) (v : List ℕ) → Broken ≡ meant_of (operand_meaning k v) → operand_meaning k v ≡ None
+pub none_meant : (k : Name) (v : List ℕ) → None ≡ meant_of (operand_meaning k v) → operand_meaning k v ≡ None
 none_meant k v e = go (operand_meaning k v) refl e
   where
-    go : (o : Option Test) → operand_meaning k v ≡ o → Broken ≡ meant_of o → operand_meaning k v ≡ None
+    go : (o : Option Test) → operand_meaning k v ≡ o → None ≡ meant_of o → operand_meaning k v ≡ None
     go None m e = m
     go (Some x) m e = let z : ◌≡◌ {A = ℕ} 0 1 = cc in absurd (omega arith)
 

@@ -32,7 +32,7 @@ use Rattle.octets.proofs.Writes.{both}
 use Rattle.program.specs.Records.{item}
 use Rattle.program.proofs.MachineLaws.{items_counted}
 use Rattle.operand.specs.declared.Name.{Name}
-use Rattle.operand.specs.declared.Meant.TheVariants.{Head, Broken}
+use Rattle.operand.specs.declared.Head.{Head}
 use Rattle.operand.specs.Tests.{meaning, operand_meaning, following_meant, meant_of}
 use Rattle.operand.proofs.Meanings.{meaning_sound}
 use Rattle.filter.specs.declared.Refusal.TheVariants as refusals
@@ -206,13 +206,13 @@ module _ {text : List ℕ} {t : Lexeme} {n : ℕ} (ready : Ready text t n) where
       decides h = offer.moves k h ∙ ap (λ (w : List ℕ). fill h (meaning k w)) (sym b) ∙ ap (fill h) (sym (meaning_answered k v operand_short))
 
       -- it breaks its test's rule
-      pub broken_operand : {old new : List ℕ} → Broken ≡ meant_of (operand_meaning k v) → TestSays text t n old (Err (refused_at refusals.Operand o.start)) new
+      pub broken_operand : {old new : List ℕ} → None ≡ meant_of (operand_meaning k v) → TestSays text t n old (Err (refused_at refusals.Operand o.start)) new
       unfolding fill
       broken_operand m = behind broken (λ h. run_breaks ready_operand offer.is (operand k h) (decides h ∙ ap (fill h) (none_meant k v m)))
 
-      module _ {f : Fields} {more : ℕ} (m : Head f more ≡ meant_of (operand_meaning k v)) where
+      module _ {h : Head} (m : Some h ≡ meant_of (operand_meaning k v)) where
         -- the test that is meant
-        head_test : Headed k v f more
+        head_test : Headed k v h
         head_test = headed k v m
 
         -- no more records follow its head than the operand has bytes
@@ -246,6 +246,6 @@ module _ {text : List ℕ} {t : Lexeme} {n : ℕ} (ready : Ready text t n) where
             })
 
         -- its head and the records that follow
-        pub named_says : {u : Lexeme} {old mid new : List ℕ} {p z : ℕ} → u ≡ next_at text o.end → Written old (record_size * n) (laid f) mid p
-            → Written mid p (encode_all (following_meant (operand_meaning k v))) new z → TestSays text t n old (Ok (record { next = u; n = n + 1 + more })) new
+        pub named_says : {u : Lexeme} {old mid new : List ℕ} {p z : ℕ} → u ≡ next_at text o.end → Written old (record_size * n) (laid h.fields) mid p
+            → Written mid p (encode_all (following_meant (operand_meaning k v))) new z → TestSays text t n old (Ok (record { next = u; n = n + 1 + h.following })) new
         named_says d w y = followed_says (named_taken d) head_test.following head_test.head w (rw head_test.means at y)

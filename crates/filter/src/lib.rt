@@ -17,7 +17,7 @@ ghost use Rattle.filter.specs.Parsing.{role_said, role_in, refused_at, operand_s
 
 use names::Row;
 use network::Relation;
-use operand::{Meant, Name};
+use operand::Name;
 use program::{Fields, Kind};
 use token::{Lexeme, Sort};
 
@@ -45,7 +45,7 @@ pub struct Refused {
 }
 
 // What a word says.
-#[derive(Clone, Copy)]
+#[derive(Clone, Copy, Debug, PartialEq, Eq)]
 enum Role {
     And,
     Or,
@@ -164,16 +164,15 @@ fn named(text: &[u8], name: Name, word: Lexeme, out: &mut [u8], n: usize) -> Res
         return Err(Refusal::Token.at(t.start));
     }
     let bytes = token::bytes(text, t);
-    let found = operand::meaning(name, bytes);
-    let Meant::Head { fields, following } = found else {
+    let Some(head) = operand::meaning(name, bytes) else {
         return Err(Refusal::Operand.at(t.start));
     };
     let next = token::next(text, t.end);
-    let items = program::put_record(out, program::RECORD_SIZE * n, fields);
+    let items = program::put_record(out, program::RECORD_SIZE * n, head.fields);
     operand::put_items(name, bytes, out, items);
     Ok(Upto {
         next,
-        n: n + 1 + (following as usize),
+        n: n + 1 + (head.following as usize),
     })
 }
 

@@ -34,6 +34,7 @@ fn read_full<R: Read>(input: &mut R, room: &mut [u8]) -> Result<usize, ReadFaile
     ensures { MatchResult result (λ n. n ≤ length room.new) (λ failed. failed.before ≤ length room.new) }
 {
     let mut length = 0;
+    // each read says how far it came: no index that counts up
     while length < room.len() {
         match input.read(&mut room[length..]) {
             Err(_) => return Err(ReadFailed { before: length }),

@@ -1,10 +1,8 @@
 -- Addresses: decided, and by places. Assumes nothing.
 use Prim.Native.Nat.{ℕ, ◌<◌}
-use native.Mathlib.Omega.{arith}
-use mathlib.Core.Path.{◌≡◌, refl, sym, ap, ◌∙◌}
-use Rattle.std.specs.Prelude.{None, Some}
+use mathlib.Core.Path.{◌≡◌, refl, ◌∙◌}
+use Rattle.std.specs.Prelude.{Some}
 use mathlib.Core.List.{List, ◌∷◌, ◌++◌, append_assoc}
-use lib.ListN.{length, drop}
 use Rattle.operand.specs.Decimals.{byte_limit, Below, is_digit}
 use Rattle.operand.proofs.Holding.{AnswerHolds, held, holds_onward, holds_some}
 use Rattle.operand.proofs.FrontReads.{Got, Stops, other, after_sound, after_complete}

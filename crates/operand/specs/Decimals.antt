@@ -1,5 +1,5 @@
 -- Numbers in decimal without leading zeros.
-use Rattle.std.specs.Prelude.{ℕ, ◌+◌, ◌-◌, ◌*◌, ◌^◌, ◌≤◌, ◌<◌, ◌≡◌, Bool, true, false, List, [], ◌∷◌, leb, ltb, length, drop}
+use Rattle.std.specs.Prelude.{ℕ, ◌+◌, ◌-◌, ◌*◌, ◌^◌, ◌≤◌, ◌<◌, Bool, true, false, List, [], ◌∷◌, leb, ltb}
 use Rattle.std.specs.Prelude.{Option, None, Some}
 use Rattle.octets.specs.Choice.{pick}
 use Rattle.octets.specs.Decimal.{Decimal}

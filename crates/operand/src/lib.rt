@@ -41,7 +41,7 @@ const LENGTH_LIMIT: u64 = ADDRESS_BITS + 1;
 const HALF_LIMIT: u64 = communities::HALF_LIMIT as u64;
 
 // The tests that have an operand.
-#[derive(Clone, Copy)]
+#[derive(Clone, Copy, Debug, PartialEq, Eq)]
 pub enum Name {
     MessageType,
     Attribute,

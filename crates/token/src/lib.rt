@@ -3,7 +3,8 @@
 
 ghost use Rattle.std.specs.Prelude.{◌≡◌, ◌+◌, ◌-◌, ◌<◌, ℕ, Bool, length};
 ghost use Rattle.token.specs.Texts.{allowed};
-ghost use Rattle.token.specs.Next.{is_blank, is_letter, is_inner, Computes, run_end, lexeme, quote_at, start_at, next_at, part, bytes_in, allowed_front, unclosed_at};
+ghost use Rattle.token.specs.Next.{is_blank, is_letter, is_inner, Computes, run_end, lexeme, quote_at, start_at, next_at};
+ghost use Rattle.token.specs.Next.{part, bytes_in, allowed_front, unclosed_at};
 
 // The most bytes of a text.
 pub const TEXT_LIMIT: usize = 4096;
@@ -160,7 +161,7 @@ pub fn bytes(text: &[u8], lexeme: Lexeme) -> &[u8]
     }
 }
 
-// The place of the first forbidden byte, the length where there is none.
+// The place of the first forbidden byte, the length where there is none: no Option, since what it promises stays word for word.
 pub fn forbidden(text: &[u8]) -> usize
     ensures { result ≡ allowed_front text.now }
 {
@@ -172,6 +173,7 @@ pub fn unclosed(text: &[u8]) -> usize
     ensures { result ≡ unclosed_at text.now }
 {
     let mut at = 0;
+    // from lexeme to lexeme: no index that counts up
     while at < text.len() {
         let found = next(text, at);
         if found.sort == Sort::Unclosed {

@@ -5,6 +5,7 @@ ghost use Rattle.std.specs.Prelude.{◌≡◌, ◌<◌, ◌^◌};
 ghost use Rattle.walk.specs.Steps.{step_at, record_of, place_after};
 ghost use Rattle.walk.specs.Readers.{fresh, step_on, moved};
 
+// What stands at a place: the paper names three outcomes, so it is no Option and no Result.
 #[derive(Clone, Copy, Debug, PartialEq, Eq)]
 pub enum Step {
     // A whole record: where it starts, and its bytes with its header.

@@ -39,7 +39,7 @@ const FORMS: [Form; 7] = [
         spoilt: &[
             ("break 'search", "return true"),
             ("return false", "break 'search"),
-            ("break;", "break 'search;"),
+            ("for m in path", "'inner: for m in path"),
         ],
     },
     Form {
@@ -55,7 +55,7 @@ const FORMS: [Form; 7] = [
         spoilt: &[
             ("const BOGONS", "fn bogons"),
             ("Range { low: 0, high: 0 },", ""),
-            ("BOGONS[", "range_of("),
+            ("BOGONS.iter()", "ranges().iter()"),
         ],
     },
     Form {
@@ -165,7 +165,7 @@ fn refusal_in_else(judge: &str) -> Option<bool> {
     let (_, refusal, _) = braced(rest)?;
     Some(
         has(body, &format!("let {answer} = message::decode("))
-            && has(refusal, &format!("return Err({answer}.unwrap_err()"))
+            && has(refusal, &format!("return Err({answer}.unwrap_err()")),
     )
 }
 
@@ -181,7 +181,7 @@ fn left_by_a_label(aspath: &str) -> Option<bool> {
     let (_, body) = function(aspath, "loops")?;
     let label = body.split(' ').find(|word| word.starts_with('\''))?;
     let (_, outer, _) = braced(behind(body, &format!("{label}: loop"))?)?;
-    let (_, inner, _) = braced(behind(outer, "loop")?)?;
+    let (_, inner, _) = braced(behind(outer, "for m in path")?)?;
     let leaves = format!("break {label}");
     let labels = body
         .split(' ')
@@ -207,8 +207,7 @@ fn bogon_table(aspath: &str) -> Option<bool> {
             && count(rows, ", high:") == 9
             && has(range, "low: u32")
             && has(range, "high: u32")
-            && has(test, "while")
-            && has(test, "BOGONS["),
+            && has(test, "BOGONS.iter().any("),
     )
 }
 

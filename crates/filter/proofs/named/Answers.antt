@@ -9,9 +9,9 @@ returns-then-not-is_operand c = rw c.at.ensures
 
 pub returns-in_default : goal.returns-in_default
 returns-in_default c = let operand = sym c.is_operand.ensures ∙ c.if-not-is_operand.false in
-    rw c.at-in_default.ensures (broken_operand c.requires.0 c.requires.1 c.next-t.ensures operand c.bytes-bytes.ensures (sym c.in_default.is ∙ c.meaning-found.ensures))
+    rw c.at-in_default.ensures (broken_operand c.requires.0 c.requires.1 c.next-t.ensures operand c.bytes-bytes.ensures (sym c.in_default.is ∙ c.meaning.ensures))
 
 pub returns : goal.returns
 returns c = let operand = sym c.is_operand.ensures ∙ c.if-not-is_operand.false in
-    named_says c.requires.0 c.requires.1 c.next-t.ensures operand c.bytes-bytes.ensures (sym c.in-Head.is ∙ c.meaning-found.ensures)
+    named_says c.requires.0 c.requires.1 c.next-t.ensures operand c.bytes-bytes.ensures (sym c.in-Some.is ∙ c.meaning.ensures)
     c.next-next.ensures c.put_record-items.ensures c.put_items.ensures

@@ -5,7 +5,7 @@ use mathlib.Core.Path.{◌≡◌, sym, ◌∙◌}
 use mathlib.Core.Bool.{true, false}
 use mathlib.Core.List.{List, ◌∷◌}
 use Rattle.std.specs.Prelude.{None, Some}
-use lib.ListN.{length, get_or, take, drop}
+use lib.ListN.{get_or}
 use Rattle.octets.specs.Choice.{pick, onward}
 use Rattle.program.specs.Readings.{by_both}
 use Rattle.program.specs.Layout.{head_fields}
