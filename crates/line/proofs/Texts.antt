@@ -10,7 +10,7 @@ use Rattle.octets.specs.Writes.{last_place, Written}
 use Rattle.octets.specs.Rows.{items}
 use Rattle.octets.proofs.Rows.{Sizes, items_next, items_end}
 use Rattle.octets.proofs.Writes.{up_to_in, up_to_out, both, nothing, kept, Midst, starts, moves, ends}
-use Rattle.std.specs.Prelude.{Option, Some, None}
+use Rattle.std.specs.Prelude.{Some, None}
 use Rattle.std.specs.Iterator.{YieldsFirstBy}
 use Rattle.line.specs.Field.{Gives}
 use Rattle.line.specs.Text.{following, separated}

@@ -62,7 +62,7 @@ fn put_prefixes(out: &mut [u8], at: usize, s: &[u8]) -> usize
     put_spaced(out, at, Networks(s), network::put_network)
 }
 
-// As many numbers as asked for, with a separator between.
+// As many numbers as asked for, with a separator between. Not put_spaced: an iterator over numbers would serve this one caller.
 fn put_numbers(
     out: &mut [u8],
     at: usize,
@@ -103,7 +103,7 @@ fn put_segment(out: &mut [u8], at: usize, s: &[u8], p: usize, width: Width) -> u
     put_numbers(out, at, s, p + 2, count, width, b' ')
 }
 
-// The segments of a path with spaces between.
+// The segments of a path with spaces between. Not put_spaced: an iterator over segments would serve this one caller.
 fn put_path(out: &mut [u8], at: usize, s: &[u8], width: Width) -> usize
     ensures { Written out.old at (path_text (segments_of (width_bytes width) s.now)) out.new result }
 {
