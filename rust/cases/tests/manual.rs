@@ -75,12 +75,19 @@ fn byte_strings(source: &str, beginning: fn(char) -> bool) -> BTreeSet<&str> {
         .collect()
 }
 
-/// The numbers of a source's refusals, as in `Refusal::Token => 4,`.
+/// The numbers of a crate's refusals, as in `Peer = 13,` beside a variant or in `Refusal::Token => 4,`.
 fn refusals(name: &str) -> Vec<u32> {
-    source(name)
+    let source = source(name);
+    let (_, behind) = source.split_once("pub enum Refusal {").unwrap();
+    let (variants, _) = behind.split_once('}').unwrap();
+    let beside = variants.lines().filter_map(|line| line.split_once(" = "));
+    let arms = source
         .lines()
         .filter(|line| line.trim().starts_with("Refusal::"))
-        .filter_map(|line| line.split_once("=> ")?.1.strip_suffix(',')?.parse().ok())
+        .filter_map(|line| line.split_once("=> "));
+    beside
+        .chain(arms)
+        .filter_map(|(_, number)| number.strip_suffix(',')?.parse().ok())
         .collect()
 }
 
