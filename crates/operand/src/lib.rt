@@ -53,14 +53,14 @@ pub enum Name {
 }
 
 // The head of a test and how many records follow it.
-#[derive(Clone, Copy)]
+#[derive(Clone, Copy, Debug, PartialEq, Eq)]
 pub struct Head {
     pub fields: Fields,
     pub following: u32,
 }
 
 // What is listed in an operand, a record each.
-#[derive(Clone, Copy)]
+#[derive(Clone, Copy, Debug, PartialEq, Eq)]
 enum Listed {
     Items,
     Communities,
@@ -248,12 +248,12 @@ fn network_operand(relation: Relation, bytes: &[u8]) -> Option<Head>
     ensures { result ≡ meant_of (meaning (Name.Network relation) bytes.now) }
 {
     if let Some(rest) = after(b'+', bytes) {
-        return network_record(rest, relation, 1);
+        return network_record(rest, relation, program::ANNOUNCED);
     }
     if let Some(rest) = after(b'-', bytes) {
-        return network_record(rest, relation, 2);
+        return network_record(rest, relation, program::WITHDRAWN);
     }
-    network_record(bytes, relation, 0)
+    network_record(bytes, relation, program::EITHER)
 }
 
 // The record of a peer with an address: alone, or with blanks and an AS number behind it.
@@ -261,13 +261,13 @@ fn peer_behind(address: u32, s: &[u8]) -> Option<Head>
     ensures { result ≡ peer_meant (behind_address address s.now) }
 {
     let [first, rest @ ..] = s else {
-        return Some(lone_head(Kind::Peer as u32, 2, 0, address, 0));
+        return Some(lone_head(Kind::Peer as u32, program::BY_ADDRESS, 0, address, 0));
     };
     if !token::is_blank(*first) {
         return None;
     }
     let value = as_numeral(past_blanks(rest))?;
-    Some(lone_head(Kind::Peer as u32, 3, 0, address, value))
+    Some(lone_head(Kind::Peer as u32, program::BY_BOTH, 0, address, value))
 }
 
 fn peer(bytes: &[u8]) -> Option<Head>
@@ -277,7 +277,7 @@ fn peer(bytes: &[u8]) -> Option<Head>
         return peer_behind(address, rest);
     }
     let value = as_numeral(bytes)?;
-    Some(lone_head(Kind::Peer as u32, 1, 0, 0, value))
+    Some(lone_head(Kind::Peer as u32, program::BY_AS, 0, 0, value))
 }
 
 // The code of a comparison with `=` behind it or not, and the bytes behind both.
@@ -295,15 +295,15 @@ fn comparison(s: &[u8]) -> (u32, &[u8])
     ensures { read result.0 result.1.now ≡ signed (comparison s.now) }
 {
     if let Some(rest) = after(b'=', s) {
-        return (0, rest);
+        return (program::EQUAL, rest);
     }
     if let Some(rest) = after(b'<', s) {
-        return or_equal(1, 2, rest);
+        return or_equal(program::BELOW, program::AT_MOST, rest);
     }
     if let Some(rest) = after(b'>', s) {
-        return or_equal(3, 4, rest);
+        return or_equal(program::ABOVE, program::AT_LEAST, rest);
     }
-    (0, s)
+    (program::EQUAL, s)
 }
 
 // The number that digits say, with any zeros.
