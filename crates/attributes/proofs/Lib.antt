@@ -3,7 +3,7 @@ pub mod Aggregators
 pub mod AttributesExist
 pub mod ByCode
 pub mod Distinct
-pub mod Finding
+pub mod Left
 pub mod Lookup
 pub mod Marks
 pub mod MeaningBodies

@@ -1,12 +1,12 @@
 -- Laws of the attribute at the front of some bytes: where one stands, and its size. Assumes nothing.
-use Prim.Native.Nat.{ℕ, ◌+◌, ◌-◌, ◌/◌, ◌%◌, ◌≤◌, ◌<◌}
+use Prim.Native.Nat.{ℕ, ◌+◌, ◌/◌, ◌%◌, ◌≤◌, ◌<◌}
 use native.Mathlib.Nat.{lt_of_not-le, add-zero}
 use native.Mathlib.Decide.{dec_le, ℕ_discrete}
 use native.Mathlib.Omega.{arith}
 use mathlib.Core.Path.{◌≡◌, refl}
 use mathlib.Core.List.{List}
 use mathlib.Core.Logic.{◌⊎◌, inl, inr}
-use lib.ListN.{length, get_or, take, drop, length-drop}
+use lib.ListN.{length, get_or, drop, length-drop}
 use lib.Seq.{get_or-drop, drop-drop}
 use borrow.Author.Tests.{le-leb, lt-leb, eq-eqb, ne_eqb}
 use Rattle.octets.specs.Numbers.{number_at}
@@ -128,10 +128,3 @@ step s at {r} e =
       next = rw f.same (drop-drop r at s);
       code = get_or-drop at s 1 0;
     }
-
--- its body is what stands from its header on to its end
-pub body_part : {s : List ℕ} {at r : ℕ} → Step s at r → (h : ℕ) → h ≡ attribute_header (drop at s)
-    → take (body_size (drop at s)) (drop (attribute_header (drop at s)) (drop at s)) ≡ take (at + r - (at + h)) (drop (at + h) s)
-body_part {s} {at} {r} x h e =
-    let b : body_size (drop at s) ≡ at + r - (at + h) = omega (arith, x.parts) in
-    rw (b, ← e, drop-drop h at s) refl

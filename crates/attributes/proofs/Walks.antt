@@ -3,16 +3,14 @@ use Prim.Native.Nat.{ℕ, ◌≤◌}
 use mathlib.Core.Path.{◌≡◌, refl, ap, ◌∙◌}
 use mathlib.Core.Bool.{Bool, true, false}
 use mathlib.Core.List.{List, [], ◌∷◌}
-use lib.ListN.{length, get_or, take, drop}
+use lib.ListN.{length, get_or, drop}
 use lib.Dec.{eqb}
 use Rattle.octets.specs.Choice.{pick}
-use Rattle.std.specs.Prelude.{None}
-use Rattle.octets.specs.Rows.{sized, whole}
+use Rattle.octets.specs.Rows.{whole}
 use Rattle.octets.proofs.Choices.{alike}
-use Rattle.octets.proofs.Rows.{sized_none, whole_next, whole_stop, items_end, items_next}
-use Rattle.attributes.specs.Wire.{attribute_header, body_size, attribute_size, raw_of, raws_of, codes}
+use Rattle.octets.proofs.Rows.{whole_next, whole_stop, items_end, items_next}
+use Rattle.attributes.specs.Wire.{attribute_size, raw_of, raws_of, codes}
 use Rattle.attributes.specs.Codes.{is_sound}
-use Rattle.attributes.specs.Bodies.{body_right, all_right}
 use Rattle.attributes.proofs.Sizes.{attribute_sizes}
 use Rattle.attributes.proofs.Distinct.{fresh, Adds, fresh_start, fresh_end, fresh_marked, fresh_next}
 
@@ -48,31 +46,12 @@ module _ (l : List ℕ) where
     sound_next a e =
         rw (codes_next n code, whole_next attribute_size attribute_sizes l n, fresh_next a e (codes (raws_of (drop (attribute_size l) l)))) refl
 
-    module _ (w : ℕ) {body : List ℕ} (part : take (body_size l) (drop (attribute_header l) l) ≡ body) where
-      -- its body is looked at, and then the others
-      body_first : all_right w (raws_of l) ≡ pick (body_right w c body) (all_right w (raws_of (drop (attribute_size l) l))) false
-      unfolding all_right raw_of
-      body_first = ap (all_right w) (items_next attribute_size raw_of attribute_sizes l n) ∙ rw (code, part) refl
-
-      -- it starts with one whose body is wrong
-      pub right_wrong : body_right w c body ≡ false → all_right w (raws_of l) ≡ false
-      right_wrong e = body_first ∙ rw e refl
-
-      -- it starts with one whose body is right
-      pub right_next : body_right w c body ≡ true → all_right w (raws_of l) ≡ all_right w (raws_of (drop (attribute_size l) l))
-      right_next e = body_first ∙ rw e refl
-
-  -- where no attribute stands, every body is right
-  pub right_end : (w : ℕ) → attribute_size l ≡ 0 → all_right w (raws_of l) ≡ true
-  unfolding all_right
-  right_end w z = rw (items_end attribute_size raw_of l z) refl
-
 -- where no attribute stands at a place, what is left is sound just where it is nothing
-pub sound_stop : (marked : ℕ → Bool) (s : List ℕ) (at : ℕ) → at ≤ length s → None ≡ sized (attribute_size (drop at s))
+pub sound_stop : (marked : ℕ → Bool) (s : List ℕ) (at : ℕ) → at ≤ length s → attribute_size (drop at s) ≡ 0
     → eqb at (length s) ≡ sound_with marked (drop at s)
 unfolding sound_with
-sound_stop marked s at h e =
-    rw (codes_end (drop at s) (sized_none e), fresh_end marked, ← whole_stop attribute_size attribute_sizes s at h e) (go (eqb at (length s)))
+sound_stop marked s at h z =
+    rw (codes_end (drop at s) z, fresh_end marked, ← whole_stop attribute_size attribute_sizes s at h (rw z refl)) (go (eqb at (length s)))
   where
     go : (b : Bool) → b ≡ pick b true false
     go true = refl

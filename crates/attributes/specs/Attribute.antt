@@ -1,6 +1,5 @@
 -- The attributes of an UPDATE, with what those that are looked at say.
-use Rattle.std.specs.Prelude.{ℕ, List, [], ◌∷◌}
-use Rattle.std.specs.Prelude.{Option, Some, None}
+use Rattle.std.specs.Prelude.{ℕ, List, [], ◌∷◌, Option, Some, None}
 use Rattle.octets.specs.Choice.{or_else}
 use Rattle.aspath.specs.Members.{Segment}
 

@@ -5,3 +5,4 @@ pub mod Codes
 pub mod Bodies
 pub mod Encodable
 pub mod Finding
+pub mod Left

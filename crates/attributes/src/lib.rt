@@ -2,12 +2,14 @@
 #![tactic(auto)]
 
 ghost use Rattle.std.specs.Prelude.{◌≡◌, false, ◌+◌, ◌/◌, ◌%◌, ◌^◌, ◌<◌, ◌≤◌, length, drop, eqb};
+ghost use Rattle.std.specs.Iterator.{YieldsFirst, item_count};
 ghost use Rattle.octets.specs.Rows.{sized};
 ghost use Rattle.aspath.specs.Wire.{width_bytes};
 ghost use Rattle.attributes.specs.Wire.{length_width, attribute_header, body_size, attribute_size, raws_of};
 ghost use Rattle.attributes.specs.Codes.{is_sound};
 ghost use Rattle.attributes.specs.Bodies.{body_right, all_right};
 ghost use Rattle.attributes.specs.Finding.{find_of};
+ghost use Rattle.attributes.specs.Left.{attributes_left};
 
 use aspath::Width;
 
@@ -104,23 +106,57 @@ fn mark(word: u64, bit: u32) -> u64
     word + (1 << bit)
 }
 
+// An attribute: its code, and where its body stands.
+#[derive(Clone, Copy)]
+struct Placed {
+    code: u8,
+    body: Body,
+}
+
+// The attributes of a section from a place on, up to its end or to the first that isn't whole.
+#[derive(Clone, Copy)]
+struct Attributes<'a> {
+    section: &'a [u8],
+    at: usize,
+}
+
+impl<'a> Iterator for Attributes<'a> {
+    type Item = Placed;
+
+    ghost next_gives = { YieldsFirst attributes_left };
+
+    ghost remaining = { item_count attributes_left };
+
+    fn next(&mut self) -> Option<Placed> {
+        let size = attribute_size(self.section, self.at)?;
+        let code = self.section[self.at + CODE_AT];
+        let start = self.at + header_size(self.section, self.at);
+        self.at += size;
+        let len = self.at - start;
+        Some(Placed {
+            code,
+            body: Body { start, len },
+        })
+    }
+}
+
 // Whether a section is attributes to its end, no code twice. The codes seen are the bits of four words.
 pub fn sound(s: &[u8]) -> bool
     ensures { result ≡ is_sound s.now }
 {
+    let attributes = Attributes { section: s, at: 0 };
     let mut seen = [0u64; 4];
-    let mut at = 0;
-    while let Some(size) = attribute_size(s, at) {
-        let code = s[at + CODE_AT];
-        let word = (code / 64) as usize;
-        let bit = (code % 64) as u32;
+    let mut end = 0;
+    for attribute in attributes {
+        let word = (attribute.code / 64) as usize;
+        let bit = (attribute.code % 64) as u32;
         if marked(seen[word], bit) {
             return false;
         }
         seen[word] = mark(seen[word], bit);
-        at += size;
+        end = attribute.body.start + attribute.body.len;
     }
-    at == s.len()
+    end == s.len()
 }
 
 // Whether the body of an attribute is as its code asks: ORIGIN, AS_PATH, NEXT_HOP, ATOMIC_AGGREGATE, AGGREGATOR and COMMUNITY are
@@ -148,30 +184,14 @@ fn body_right(code: u8, body: &[u8], width: Width) -> bool
 pub fn bodies_right(s: &[u8], width: Width) -> bool
     ensures { result ≡ all_right (width_bytes width) (raws_of s.now) }
 {
-    let mut at = 0;
-    while let Some(size) = attribute_size(s, at) {
-        let start = at + header_size(s, at);
-        let end = at + size;
-        if !body_right(s[at + CODE_AT], &s[start..end], width) {
-            return false;
-        }
-        at = end;
-    }
-    true
+    let mut attributes = Attributes { section: s, at: 0 };
+    attributes.all(|a| body_right(a.code, octets::part(s, a.body.start, a.body.len), width))
 }
 
 // The body of the first attribute of a section with a code.
 pub fn find(s: &[u8], code: u8) -> Option<Body>
     ensures { result ≡ find_of code s.now }
 {
-    let mut at = 0;
-    while let Some(size) = attribute_size(s, at) {
-        if s[at + CODE_AT] == code {
-            let start = at + header_size(s, at);
-            let len = body_size(s, at);
-            return Some(Body { start, len });
-        }
-        at += size;
-    }
-    None
+    let mut attributes = Attributes { section: s, at: 0 };
+    attributes.find(|a| a.code == code).map(|a| a.body)
 }

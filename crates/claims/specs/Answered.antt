@@ -1,6 +1,5 @@
 -- What `compile_and_judge` answers, as what compiling and judging answer; and what it leaves where compiling refuses.
-use Rattle.std.specs.Prelude.{ℕ, ◌≡◌, List}
-use Rattle.std.specs.Prelude.{Option, Some, None, Result, Ok, Err}
+use Rattle.std.specs.Prelude.{ℕ, ◌≡◌, List, Option, Some, None, Result, Ok, Err}
 use Rattle.filter.specs.declared.Refused.{Refused}
 use Rattle.filter.specs.Functions.{Compiling, compiling_of, our_compiler}
 use Rattle.judge.specs.declared.Tally.{Tally}

@@ -1,8 +1,7 @@
 -- Demand 1, as a claim about a compiler and a judge: each clause under the demand's own words. "It answers and stops": both are functions of all
 -- that is lent, and the checker proves that the code ends. "It never asks its caller to have looked first": nothing is asked of the arguments but
 -- that bytes are bytes.
-use Rattle.std.specs.Prelude.{ℕ, ◌≤◌, ◌≡◌, true, List, ◌↔◌, length}
-use Rattle.std.specs.Prelude.{Option}
+use Rattle.std.specs.Prelude.{ℕ, ◌≤◌, ◌≡◌, true, List, ◌↔◌, length, Option}
 use Rattle.octets.specs.Numbers.{Octets}
 use Rattle.message.specs.Message.{Message}
 use Rattle.message.specs.Represents.{Represents}

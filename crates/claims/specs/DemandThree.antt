@@ -1,6 +1,5 @@
 -- Demand 3, as a claim about a compiler and a judge: each clause under the demand's own words.
-use Rattle.std.specs.Prelude.{ℕ, ◌*◌, ◌≤◌, ◌≡◌, Bool, List, ◌++◌, ◌↔◌, length, drop}
-use Rattle.std.specs.Prelude.{Option, Some}
+use Rattle.std.specs.Prelude.{ℕ, ◌*◌, ◌≤◌, ◌≡◌, Bool, List, ◌++◌, ◌↔◌, length, drop, Option, Some}
 use Rattle.octets.specs.Numbers.{Octets}
 use Rattle.message.specs.Message.{Message}
 use Rattle.message.specs.Represents.{Represents}

@@ -1,6 +1,5 @@
 -- Demand 2, as a claim about a compiler, a judge and a runner: each clause under the demand's own words.
-use Rattle.std.specs.Prelude.{ℕ, ◌^◌, ◌≤◌, ◌<◌, ◌≡◌, List, [], ◌∷◌, ◌++◌, ◌↔◌, length, drop}
-use Rattle.std.specs.Prelude.{Option}
+use Rattle.std.specs.Prelude.{ℕ, ◌^◌, ◌≤◌, ◌<◌, ◌≡◌, List, [], ◌∷◌, ◌++◌, ◌↔◌, length, drop, Option}
 use Rattle.octets.specs.Numbers.{Octets}
 use Rattle.aspath.specs.declared.Width.{Width}
 use Rattle.aspath.specs.Members.{number as member}

@@ -1,7 +1,6 @@
 -- What the demands speak of, as functions of all that is lent, so that a demand can be said of others too. A compiler stands in crate filter, a
 -- judge in crate judge, a runner in crate run; here is the walker.
-use Rattle.std.specs.Prelude.{ℕ, zero, suc, List, eqb}
-use Rattle.std.specs.Prelude.{Option, Some, None}
+use Rattle.std.specs.Prelude.{ℕ, zero, suc, List, eqb, Option, Some, None}
 use Rattle.octets.specs.Choice.{pick}
 use Rattle.walk.specs.declared.Step.{Step}
 use Rattle.walk.specs.Steps.{step_at, place_after}

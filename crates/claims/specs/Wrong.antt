@@ -1,6 +1,5 @@
 -- The wrong programs that document 01 wants shut out, each as what makes a compiler, a judge or a walker such a one, whatever it does otherwise.
-use Rattle.std.specs.Prelude.{ℕ, ◌≡◌, List, length}
-use Rattle.std.specs.Prelude.{Option}
+use Rattle.std.specs.Prelude.{ℕ, ◌≡◌, List, length, Option}
 use Rattle.walk.specs.declared.Step.TheVariants.{Record}
 use Rattle.judge.specs.declared.Tally.{Tally}
 use Rattle.judge.specs.Functions.{Judge}

@@ -9,14 +9,14 @@ use filter::Refused;
 use judge::{Refusal, Tally, Verdict};
 
 // A text that compiles: the bytes of its program, and what judging a record with these answers.
-#[derive(Clone, Copy)]
+#[derive(Clone, Copy, Debug, PartialEq, Eq)]
 pub struct Judged {
     pub bytes: usize,
     pub judged: Result<Verdict, Refusal>,
 }
 
 // What compiling and judging answer, and the tally after them, where there is one.
-#[derive(Clone, Copy)]
+#[derive(Clone, Copy, Debug, PartialEq, Eq)]
 pub struct Answered {
     pub answer: Result<Judged, Refused>,
     pub counting: Option<Tally>,

@@ -1,6 +1,5 @@
 -- A reader of tokens from left to right, one step to a token: what the code computes. What is unfinished stands in a hole.
-use Rattle.std.specs.Prelude.{ℕ, suc, Bool, true, false, ltb}
-use Rattle.std.specs.Prelude.{Option, None, Some}
+use Rattle.std.specs.Prelude.{ℕ, suc, Bool, true, false, ltb, Option, None, Some}
 use mathlib.Core.List.{List, [], ◌∷◌}
 use Rattle.program.specs.Readings.{Test, and, or, Reading, test, neg, joint}
 use Rattle.token.specs.Tokens.{Token, open', close, bang, word, quoted}

@@ -1,6 +1,5 @@
 -- The words of the language.
-use Rattle.std.specs.Prelude.{ℕ, List, [], ◌∷◌}
-use Rattle.std.specs.Prelude.{Option}
+use Rattle.std.specs.Prelude.{ℕ, List, [], ◌∷◌, Option}
 use Rattle.network.specs.declared.Relation.TheVariants.{Exact, Supernet, Subnet, Related}
 use Rattle.program.specs.Readings.{Test, has_loop, has_bogon, Operator, and, or}
 use Rattle.operand.specs.declared.Name.{Name}

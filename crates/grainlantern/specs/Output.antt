@@ -1,6 +1,5 @@
 -- What is written for a good filter: the lines that the steps of a run hand out, with the program that the filter compiles to.
-use Rattle.std.specs.Prelude.{ℕ, ◌≡◌, List, [], take}
-use Rattle.std.specs.Prelude.{Some, Result, Ok, Err}
+use Rattle.std.specs.Prelude.{ℕ, ◌≡◌, List, [], take, Some, Result, Ok, Err}
 use Rattle.filter.specs.Functions.{reported, our_compiler}
 use Rattle.judge.specs.declared.Refusal.{Refusal}
 use Rattle.judge.specs.declared.Verdict.{Verdict}

@@ -1,6 +1,5 @@
 -- What judging a record with a program answers: 20, 21, 11 to 18, the verdict, 19, in the paper's words.
-use Rattle.std.specs.Prelude.{ℕ, ◌≤◌, ◌<◌, ◌≡◌, true, false, List, ◌++◌, length, drop}
-use Rattle.std.specs.Prelude.{Option}
+use Rattle.std.specs.Prelude.{ℕ, ◌≤◌, ◌<◌, ◌≡◌, true, false, List, ◌++◌, length, drop, Option}
 use Rattle.message.specs.Message.{Message}
 use Rattle.message.specs.declared.Refusal.{Refusal as RecordRefusal}
 use Rattle.message.specs.Represents.{Represents}

@@ -1,6 +1,5 @@
 -- Judging as a function of all that is lent, so that a claim can be said of another judge too; and ours.
-use Rattle.std.specs.Prelude.{ℕ, List, length}
-use Rattle.std.specs.Prelude.{Option, Some, None, Result, Ok, Err}
+use Rattle.std.specs.Prelude.{ℕ, List, length, Option, Some, None, Result, Ok, Err}
 use Rattle.program.specs.declared.Spent.{Spent}
 use Rattle.program.specs.Spent.{nothing}
 use Rattle.judge.specs.declared.Refusal.{Refusal}

@@ -1,6 +1,5 @@
 -- The answer of judging, as the code computes it.
-use Rattle.std.specs.Prelude.{ℕ, Bool, List, length, ltb}
-use Rattle.std.specs.Prelude.{Option, Result, Ok, Err}
+use Rattle.std.specs.Prelude.{ℕ, Bool, List, length, ltb, Option, Result, Ok, Err}
 use Rattle.octets.specs.Choice.{pick}
 use Rattle.message.specs.Message.{Message}
 use Rattle.message.specs.declared.Parts.{Parts}

@@ -1,6 +1,5 @@
 -- The tally (the paper's term): seen, kept, dropped and refused, 32 bits each.
-use Rattle.std.specs.Prelude.{ℕ, ◌+◌, ◌≡◌, Bool, true, false, eqb}
-use Rattle.std.specs.Prelude.{Option, Some, None}
+use Rattle.std.specs.Prelude.{ℕ, ◌+◌, ◌≡◌, Bool, true, false, eqb, Option, Some, None}
 use Rattle.octets.specs.Choice.{pick}
 use Rattle.judge.specs.declared.Tally.{Tally}
 

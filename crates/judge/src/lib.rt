@@ -43,21 +43,21 @@ pub enum Refusal {
 }
 
 // Whether a record is kept: what was spent, and the bytes of its lines.
-#[derive(Clone, Copy)]
+#[derive(Clone, Copy, Debug, PartialEq, Eq)]
 pub enum Verdict {
     Kept { spent: Spent, bytes: usize },
     Dropped { spent: Spent },
 }
 
 // An answer, and the tally after it.
-#[derive(Clone, Copy)]
+#[derive(Clone, Copy, Debug, PartialEq, Eq)]
 pub struct Counted {
     pub judged: Result<Verdict, Refusal>,
     pub tally: Tally,
 }
 
 // The machine between two records: the place of the next one, the flag and what is spent so far.
-#[derive(Clone, Copy)]
+#[derive(Clone, Copy, Debug, PartialEq, Eq)]
 struct MachineState {
     at: usize,
     flag: bool,
@@ -82,16 +82,16 @@ impl From<Refusal> for u32 {
 impl From<RecordRefusal> for Refusal {
     ghost from_gives = { λ why refusal. refusal ≡ Record why };
 
-    fn from(why: RecordRefusal) -> Refusal {
-        Refusal::Record(why)
+    fn from(why: RecordRefusal) -> Self {
+        Self::Record(why)
     }
 }
 
 impl From<Short> for Refusal {
     ghost from_gives = { λ _ refusal. refusal ≡ Lines };
 
-    fn from(_short: Short) -> Refusal {
-        Refusal::Lines
+    fn from(_short: Short) -> Self {
+        Self::Lines
     }
 }
 

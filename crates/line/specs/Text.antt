@@ -1,6 +1,5 @@
 -- Lists as text.
-use Rattle.std.specs.Prelude.{ℕ, List, [], ◌∷◌, ◌++◌, map}
-use Rattle.std.specs.Prelude.{Option, Some, None}
+use Rattle.std.specs.Prelude.{ℕ, List, [], ◌∷◌, ◌++◌, map, Option, Some, None}
 use Rattle.octets.specs.Decimal.{decimal}
 use Rattle.network.specs.Networks.{Network}
 use Rattle.network.specs.Text.{network_text}

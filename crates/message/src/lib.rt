@@ -66,7 +66,7 @@ pub struct Part {
 }
 
 // A message's numbers, and where its sections stand.
-#[derive(Clone, Copy)]
+#[derive(Clone, Copy, Debug, PartialEq, Eq)]
 pub struct Parts {
     pub seconds: u32,
     pub width: Width,

@@ -1,6 +1,5 @@
 -- Tables of words: each row a word and what it stands for.
-use Rattle.std.specs.Prelude.{ℕ, List, [], ◌∷◌, eqb}
-use Rattle.std.specs.Prelude.{Option, None, Some}
+use Rattle.std.specs.Prelude.{ℕ, List, [], ◌∷◌, eqb, Option, None, Some}
 use Rattle.octets.specs.Choice.{pick}
 use Rattle.octets.specs.Equal.{same}
 

@@ -1,6 +1,5 @@
 -- Items that stand one after another: prefixes, segments, attributes, numbers.
-use Rattle.std.specs.Prelude.{ℕ, zero, suc, ◌≡◌, Bool, true, false, List, [], ◌∷◌, ◌++◌, length, drop, eqb}
-use Rattle.std.specs.Prelude.{Option, Some, None}
+use Rattle.std.specs.Prelude.{ℕ, zero, suc, ◌≡◌, Bool, true, false, List, [], ◌∷◌, ◌++◌, length, drop, eqb, Option, Some, None}
 use Rattle.octets.specs.Choice.{pick}
 
 -- the bytes are those of the items, joined in their order; R says which bytes are an item's

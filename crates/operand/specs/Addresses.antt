@@ -1,6 +1,5 @@
 -- Addresses and networks: the operands of `-exact`, `-supernet`, `-subnet`, `-related`.
-use Rattle.std.specs.Prelude.{ℕ, ◌+◌, ◌*◌, ◌≡◌, List, ◌∷◌, ◌++◌, eqb, get_or, drop}
-use Rattle.std.specs.Prelude.{Option, None, Some}
+use Rattle.std.specs.Prelude.{ℕ, ◌+◌, ◌*◌, ◌≡◌, List, ◌∷◌, ◌++◌, eqb, get_or, drop, Option, None, Some}
 use Rattle.octets.specs.Choice.{pick, onward}
 use Rattle.network.specs.Networks.{address_bits, Network, masked, network_in}
 use Rattle.network.specs.declared.Network.{Network as Held}

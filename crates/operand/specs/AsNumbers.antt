@@ -1,6 +1,5 @@
 -- AS numbers: decimal without leading zeros, below 2^32.
-use Rattle.std.specs.Prelude.{ℕ, ◌^◌, List}
-use Rattle.std.specs.Prelude.{Option}
+use Rattle.std.specs.Prelude.{ℕ, ◌^◌, List, Option}
 use Rattle.operand.specs.Fronts.{Read, wholly}
 use Rattle.operand.specs.Decimals.{Below, number}
 

@@ -1,6 +1,5 @@
 -- `-type` and `-attr`: a name or a code 0 to 255.
-use Rattle.std.specs.Prelude.{ℕ, List}
-use Rattle.std.specs.Prelude.{Option}
+use Rattle.std.specs.Prelude.{ℕ, List, Option}
 use Rattle.octets.specs.Choice.{or_else}
 use Rattle.names.specs.Tables.{Row, In, found}
 use Rattle.operand.specs.Decimals.{byte_limit, Below, numeral}

@@ -1,6 +1,5 @@
 -- `-communities` (request 1): one or more communities parted by blanks, each `N:M` or a name. No blank stands at the ends.
-use Rattle.std.specs.Prelude.{ℕ, ◌-◌, ◌≤◌, ◌≡◌, Bool, List, [], ◌∷◌, ◌++◌, length, get_or}
-use Rattle.std.specs.Prelude.{Option, None, Some}
+use Rattle.std.specs.Prelude.{ℕ, ◌-◌, ◌≤◌, ◌≡◌, Bool, List, [], ◌∷◌, ◌++◌, length, get_or, Option, None, Some}
 use Rattle.octets.specs.Choice.{pick, or_else, onward}
 use Rattle.names.specs.Tables.{In, found}
 use Rattle.communities.specs.Communities.{half_limit, community}

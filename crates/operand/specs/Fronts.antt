@@ -1,6 +1,5 @@
 -- Reading from the front of bytes, as the code goes: what was read, and what is left behind it.
-use Rattle.std.specs.Prelude.{ℕ, Bool, true, false, List, [], ◌∷◌, eqb, take, drop}
-use Rattle.std.specs.Prelude.{Option, None, Some}
+use Rattle.std.specs.Prelude.{ℕ, Bool, true, false, List, [], ◌∷◌, eqb, take, drop, Option, None, Some}
 use Rattle.std.specs.Borrow.{Bor}
 use Rattle.octets.specs.Choice.{pick, onward}
 use Rattle.token.specs.Next.{run}

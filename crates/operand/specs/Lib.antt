@@ -11,3 +11,4 @@ pub mod Communities
 pub mod Listed
 pub mod Times
 pub mod Tests
+pub mod Left

@@ -1,6 +1,5 @@
 -- What stands in a list of an operand, a record each: the items of a pattern, or communities.
-use Rattle.std.specs.Prelude.{ℕ, List, [], map}
-use Rattle.std.specs.Prelude.{Option, None, Some}
+use Rattle.std.specs.Prelude.{ℕ, List, [], map, Option, None, Some}
 use Rattle.std.specs.Borrow.{Bor}
 use Rattle.octets.specs.Choice.{onward}
 use Rattle.aspath.specs.declared.Item.{Item}

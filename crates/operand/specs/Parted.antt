@@ -1,6 +1,5 @@
 -- What is parted by blanks, whatever one of it is: R says how one is written.
-use Rattle.std.specs.Prelude.{ℕ, zero, suc, ◌≤◌, ◌≡◌, List, [], ◌∷◌, ◌++◌, length}
-use Rattle.std.specs.Prelude.{Option, None, Some}
+use Rattle.std.specs.Prelude.{ℕ, zero, suc, ◌≤◌, ◌≡◌, List, [], ◌∷◌, ◌++◌, length, Option, None, Some}
 use Rattle.octets.specs.Lists.{Every}
 use Rattle.token.specs.Texts.{Blank}
 use Rattle.token.specs.Next.{is_blank}

@@ -1,6 +1,5 @@
 -- `-aspath`: optional `^`, items parted by blanks, optional `$`; blanks around these are free.
-use Rattle.std.specs.Prelude.{ℕ, ◌≡◌, Bool, true, false, List, [], ◌∷◌, ◌++◌}
-use Rattle.std.specs.Prelude.{Option, None, Some}
+use Rattle.std.specs.Prelude.{ℕ, ◌≡◌, Bool, true, false, List, [], ◌∷◌, ◌++◌, Option, None, Some}
 use Rattle.octets.specs.Choice.{pick, or_else, onward}
 use Rattle.octets.specs.Lists.{Every}
 use Rattle.aspath.specs.declared.Item.{Item}

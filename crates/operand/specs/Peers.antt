@@ -1,6 +1,5 @@
 -- `-peer`: AS number, address, or address, blanks, AS number.
-use Rattle.std.specs.Prelude.{ℕ, ◌≤◌, ◌≡◌, List, [], ◌∷◌, ◌++◌, length}
-use Rattle.std.specs.Prelude.{Option, None, Some}
+use Rattle.std.specs.Prelude.{ℕ, ◌≤◌, ◌≡◌, List, [], ◌∷◌, ◌++◌, length, Option, None, Some}
 use Rattle.octets.specs.Choice.{pick, onward}
 use Rattle.octets.specs.Lists.{Every}
 use Rattle.program.specs.Readings.{Peer, by_as, by_address, by_both}

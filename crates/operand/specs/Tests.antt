@@ -1,6 +1,5 @@
 -- The tests that have an operand, and what an operand of each stands for.
-use Rattle.std.specs.Prelude.{ℕ, List, [], ltb, length}
-use Rattle.std.specs.Prelude.{Option, None, Some}
+use Rattle.std.specs.Prelude.{ℕ, List, [], ltb, length, Option, None, Some}
 use Rattle.octets.specs.Choice.{pick, onward}
 use Rattle.network.specs.Networks.{Network}
 use Rattle.network.specs.declared.Relation.{Relation}

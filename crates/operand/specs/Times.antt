@@ -1,6 +1,5 @@
 -- `-timestamp`: optional `>=`, `>`, `=`, `<`, `<=` (none means `=`), seconds below 2^32, optionally a dot and 1 to 6 digits.
-use Rattle.std.specs.Prelude.{ℕ, ◌+◌, ◌-◌, ◌*◌, ◌^◌, ◌≤◌, ◌≡◌, Bool, List, [], ◌∷◌, ◌++◌, length, get_or, drop, eqb, leb}
-use Rattle.std.specs.Prelude.{Option, None, Some}
+use Rattle.std.specs.Prelude.{ℕ, ◌+◌, ◌-◌, ◌*◌, ◌^◌, ◌≤◌, ◌≡◌, Bool, List, [], ◌∷◌, ◌++◌, length, get_or, drop, eqb, leb, Option, None, Some}
 use Rattle.octets.specs.Choice.{pick, onward}
 use Rattle.program.specs.Readings.{Comparison, equal, below, at_most, above, at_least}
 use Rattle.program.specs.Layout.{comparison_code}

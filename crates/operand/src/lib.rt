@@ -18,6 +18,7 @@ ghost use Rattle.operand.specs.Parted.{all_parted};
 ghost use Rattle.operand.specs.Patterns.{item_read, pattern_opened};
 ghost use Rattle.operand.specs.Communities.{halves_read, name_read, community_read};
 ghost use Rattle.operand.specs.Listed.{listed_read, listed_records, list_records};
+ghost use Rattle.operand.specs.Left.{listed_left, GivesListed};
 ghost use Rattle.operand.specs.Times.{fraction_digits, any_digits, fraction_of, comparison, signed, either_code};
 ghost use Rattle.operand.specs.Tests.{meaning, operand_meaning, following_meant, meant_of, code_meant, peer_meant, network_meant};
 
@@ -53,20 +54,20 @@ pub enum Name {
 }
 
 // The head of a test and how many records follow it.
-#[derive(Clone, Copy)]
+#[derive(Clone, Copy, Debug, PartialEq, Eq)]
 pub struct Head {
     pub fields: Fields,
     pub following: u32,
 }
 
-// What is listed in an operand, a record each.
-#[derive(Clone, Copy)]
+// What is listed in an operand, a record each. Not the reader of one as a closure: contracts name the list.
+#[derive(Clone, Copy, Debug, PartialEq, Eq)]
 enum Listed {
     Items,
     Communities,
 }
 
-// A head that nothing follows.
+// A head that nothing follows. The fields stand in a record's order: named, with `..` for the zeros, each call would be six lines for one.
 fn lone_head(kind: u32, variant: u32, count: u32, a: u32, b: u32) -> Head
     ensures { result ≡ record { fields = fields kind variant count a b; following = 0 } }
 {
@@ -209,6 +210,7 @@ fn address(s: &[u8]) -> Option<(u32, &[u8])>
     Some((((a * 256 + b) * 256 + c) * 256 + d, rest))
 }
 
+// The code of a relation. No `From`: only the crate of Relation may write one, and the code is the program's.
 fn relation_code(relation: Relation) -> u32
     ensures { result ≡ relation_code relation }
 {
@@ -248,12 +250,12 @@ fn network_operand(relation: Relation, bytes: &[u8]) -> Option<Head>
     ensures { result ≡ meant_of (meaning (Name.Network relation) bytes.now) }
 {
     if let Some(rest) = after(b'+', bytes) {
-        return network_record(rest, relation, 1);
+        return network_record(rest, relation, program::ANNOUNCED);
     }
     if let Some(rest) = after(b'-', bytes) {
-        return network_record(rest, relation, 2);
+        return network_record(rest, relation, program::WITHDRAWN);
     }
-    network_record(bytes, relation, 0)
+    network_record(bytes, relation, program::EITHER)
 }
 
 // The record of a peer with an address: alone, or with blanks and an AS number behind it.
@@ -261,13 +263,13 @@ fn peer_behind(address: u32, s: &[u8]) -> Option<Head>
     ensures { result ≡ peer_meant (behind_address address s.now) }
 {
     let [first, rest @ ..] = s else {
-        return Some(lone_head(Kind::Peer as u32, 2, 0, address, 0));
+        return Some(lone_head(Kind::Peer as u32, program::BY_ADDRESS, 0, address, 0));
     };
     if !token::is_blank(*first) {
         return None;
     }
     let value = as_numeral(past_blanks(rest))?;
-    Some(lone_head(Kind::Peer as u32, 3, 0, address, value))
+    Some(lone_head(Kind::Peer as u32, program::BY_BOTH, 0, address, value))
 }
 
 fn peer(bytes: &[u8]) -> Option<Head>
@@ -277,7 +279,7 @@ fn peer(bytes: &[u8]) -> Option<Head>
         return peer_behind(address, rest);
     }
     let value = as_numeral(bytes)?;
-    Some(lone_head(Kind::Peer as u32, 1, 0, 0, value))
+    Some(lone_head(Kind::Peer as u32, program::BY_AS, 0, 0, value))
 }
 
 // The code of a comparison with `=` behind it or not, and the bytes behind both.
@@ -295,15 +297,15 @@ fn comparison(s: &[u8]) -> (u32, &[u8])
     ensures { read result.0 result.1.now ≡ signed (comparison s.now) }
 {
     if let Some(rest) = after(b'=', s) {
-        return (0, rest);
+        return (program::EQUAL, rest);
     }
     if let Some(rest) = after(b'<', s) {
-        return or_equal(1, 2, rest);
+        return or_equal(program::BELOW, program::AT_MOST, rest);
     }
     if let Some(rest) = after(b'>', s) {
-        return or_equal(3, 4, rest);
+        return or_equal(program::ABOVE, program::AT_LEAST, rest);
     }
-    (0, s)
+    (program::EQUAL, s)
 }
 
 // The number that digits say, with any zeros.
@@ -411,6 +413,47 @@ fn one_listed(list: Listed, s: &[u8]) -> Option<(Item, &[u8])>
     }
 }
 
+// Those of a list at the front of bytes, as far as they are parted by blanks, each with the bytes behind it and blanks. Where no blank stood
+// behind the last, no more are read.
+#[derive(Clone, Copy, Debug)]
+struct ListedItems<'a> {
+    list: Listed,
+    rest: &'a [u8],
+    more: bool,
+}
+
+impl<'a> Iterator for ListedItems<'a> {
+    ghost use Rattle.std.specs.Iterator.{item_count};
+
+    type Item = (Item, &'a [u8]);
+
+    ghost next_gives = { GivesListed };
+
+    ghost remaining = { item_count (λ p. (listed_left p).value) };
+
+    fn next(&mut self) -> Option<(Item, &'a [u8])> {
+        if !self.more {
+            return None;
+        }
+        let (found, behind) = one_listed(self.list, self.rest)?;
+        self.rest = past_blanks(behind);
+        self.more = self.rest.len() < behind.len();
+        Some((found, self.rest))
+    }
+}
+
+// Those of a list from the front of bytes on.
+fn listed_items(list: Listed, s: &[u8]) -> ListedItems
+    ensures left { listed_left result ≡ all_parted (listed_read list) s.now }
+    ensures stands { result.rest.now ≡ s.now }
+{
+    ListedItems {
+        list,
+        rest: s,
+        more: true,
+    }
+}
+
 // Counts those of a list at the front, as far as they are parted by blanks; and the bytes behind them and blanks.
 fn count_listed(list: Listed, s: &[u8]) -> (u32, &[u8])
     requires { length s.now ≤ text_limit }
@@ -419,12 +462,9 @@ fn count_listed(list: Listed, s: &[u8]) -> (u32, &[u8])
 {
     let mut count: u32 = 0;
     let mut rest = s;
-    while let Some((_, behind)) = one_listed(list, rest) {
+    for (_, behind) in listed_items(list, s) {
         count += 1;
-        rest = past_blanks(behind);
-        if rest.len() == behind.len() {
-            return (count, rest);
-        }
+        rest = behind;
     }
     (count, rest)
 }
@@ -526,13 +566,8 @@ fn put_listed(list: Listed, s: &[u8], out: &mut [u8], at: usize) -> usize
     ensures { Written out.old at (encode_all (listed_records list s.now)) out.new result }
 {
     let mut place = at;
-    let mut rest = s;
-    while let Some((found, behind)) = one_listed(list, rest) {
+    for (found, _) in listed_items(list, s) {
         place = program::put_record(out, place, item_fields(found));
-        rest = past_blanks(behind);
-        if rest.len() == behind.len() {
-            return place;
-        }
     }
     place
 }

@@ -1,6 +1,5 @@
 -- The bytes of a record: kind, variant, count (2 bytes), A, B (4 bytes each), 4 zero bytes. Big-endian, unused fields zero.
-use Rattle.std.specs.Prelude.{ℕ, zero, suc, ◌+◌, Bool, true, List, [], ◌∷◌, ◌++◌, length, drop, eqb, leb, ltb}
-use Rattle.std.specs.Prelude.{Option, None, Some}
+use Rattle.std.specs.Prelude.{ℕ, zero, suc, ◌+◌, Bool, true, List, [], ◌∷◌, ◌++◌, length, drop, eqb, leb, ltb, Option, None, Some}
 use Rattle.octets.specs.Choice.{pick, onward}
 use Rattle.octets.specs.Numbers.{number_at, bytes_of}
 use Rattle.network.specs.Networks.{address_bits, Network}

@@ -1,6 +1,5 @@
 -- A damaged record in a run: what a run over `before ++ damaged ++ after` has to do with one over `before ++ after`.
-use Rattle.std.specs.Prelude.{ℕ, suc, ◌+◌, ◌≤◌, ◌<◌, ◌≡◌, List, ◌++◌, length}
-use Rattle.std.specs.Prelude.{Option, Some, None}
+use Rattle.std.specs.Prelude.{ℕ, suc, ◌+◌, ◌≤◌, ◌<◌, ◌≡◌, List, ◌++◌, length, Option, Some, None}
 use Rattle.octets.specs.Numbers.{Octets}
 use Rattle.octets.specs.Rows.{Joined}
 use Rattle.message.specs.declared.Refusal.{Refusal}

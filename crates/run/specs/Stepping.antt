@@ -1,6 +1,5 @@
 -- What `run_step` answers, as a step of a run.
-use Rattle.std.specs.Prelude.{ℕ, List}
-use Rattle.std.specs.Prelude.{Some}
+use Rattle.std.specs.Prelude.{ℕ, List, Some}
 use Rattle.judge.specs.Functions.{judging_of}
 use Rattle.run.specs.declared.Ran.{Ran}
 use Rattle.run.specs.declared.Ran.TheVariants.{Judged, Done, Cut}

@@ -9,7 +9,7 @@ ghost use Rattle.run.specs.Stepping.{stepped};
 use judge::{Refusal, Tally, Verdict};
 use walk::Step;
 
-#[derive(Clone, Copy)]
+#[derive(Clone, Copy, Debug, PartialEq, Eq)]
 pub enum Ran {
     // A record was judged: the answer, the tally after it, and the place where the run goes on.
     Judged {

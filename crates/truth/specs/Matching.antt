@@ -1,6 +1,5 @@
 -- What the functions below `holds` compute, from the fields of a record and the bytes behind it.
-use Rattle.std.specs.Prelude.{ℕ, ◌+◌, ◌*◌, Bool, true, false, List, [], ◌∷◌, take, eqb, leb}
-use Rattle.std.specs.Prelude.{Option, Some, None}
+use Rattle.std.specs.Prelude.{ℕ, ◌+◌, ◌*◌, Bool, true, false, List, [], ◌∷◌, take, eqb, leb, Option, Some, None}
 use Rattle.octets.specs.Choice.{pick, both, otherwise}
 use Rattle.aspath.specs.declared.Item.{Item}
 use Rattle.aspath.specs.declared.Cursor.{Cursor}

@@ -1,6 +1,5 @@
 -- What each test means on a message.
-use Rattle.std.specs.Prelude.{ℕ, ◌+◌, ◌*◌, ◌≤◌, ◌<◌, ◌≡◌, Bool, false, List, ◌++◌, eqb, leb, ltb}
-use Rattle.std.specs.Prelude.{Option, Some, None}
+use Rattle.std.specs.Prelude.{ℕ, ◌+◌, ◌*◌, ◌≤◌, ◌<◌, ◌≡◌, Bool, false, List, ◌++◌, eqb, leb, ltb, Option, Some, None}
 use Rattle.octets.specs.Choice.{both}
 use Rattle.octets.specs.Lists.{SomeMember, some_passes}
 use Rattle.network.specs.declared.Relation.{Relation}

@@ -1,6 +1,5 @@
 -- The truth of a test's record, from itself and the records that follow it.
-use Rattle.std.specs.Prelude.{ℕ, ◌+◌, Bool, false, List, [], ◌∷◌, length, take, drop, eqb}
-use Rattle.std.specs.Prelude.{Option, None, Some}
+use Rattle.std.specs.Prelude.{ℕ, ◌+◌, Bool, false, List, [], ◌∷◌, length, take, drop, eqb, Option, None, Some}
 use Rattle.octets.specs.Choice.{both, onward}
 use Rattle.aspath.specs.declared.Item.{Item}
 use Rattle.aspath.specs.declared.Item.TheVariants.{Number, Other, Any}

@@ -1,52 +1,41 @@
--- `attributes::sound` meets its contract. The loop's invariant: the section is sound just where the rest of it is, with the codes marked so far. Assumes nothing.
-use Prim.Native.Nat.{◌+◌, ◌/◌, ◌%◌, ◌^◌}
+-- `attributes::sound` meets its contract. The loop's invariant: the attributes left are those from the end of the last on,
+-- and the section is sound just where the rest of it is, with the codes marked so far. Assumes nothing.
 use native.Mathlib.Omega.{arith}
 use mathlib.Core.Path.{◌≡◌, refl, sym, ◌∙◌}
 use mathlib.Core.Bool.{false}
-use lib.ListN.{get_or, replicate, length-set}
-use Rattle.attributes.proofs.Sizes.{step}
-use Rattle.attributes.proofs.Marks.{marks, bit_clear, none_marked, marking_adds}
+use lib.ListN.{replicate, length-set}
+use Rattle.attributes.proofs.Left.{came, none_came}
+use Rattle.attributes.proofs.Marks.{marks, none_marked, marking_adds}
 use Rattle.attributes.proofs.Walks.{sound_start, sound_stop, sound_marked, sound_next}
 use Rattle.attributes.proofs.sound.Goals as goal
 
-pub loop-size-init : goal.loop-size-init
-loop-size-init c = (omega arith, refl, sound_start c.args.s.now (marks (replicate 4 0)) (none_marked 4))
-
-pub bounds-s-at : goal.bounds-s-at
-bounds-s-at c =
-    let x = step c.args.s.now c.loop-size.at c.in-Some.ensures in
-    omega arith
+pub loop-attribute-init : goal.loop-attribute-init
+loop-attribute-init c =
+    (omega arith, rw c.into_iter-attribute-iterator.ensures.into_iter_gives refl, refl, sound_start c.args.s.now (marks (replicate 4 0)) (none_marked 4))
 
 pub returns-then-marked : goal.returns-then-marked
 returns-then-marked c =
-    let x = step c.args.s.now c.loop-size.at c.in-Some.ensures in
-    let l = c.loop-size in
-    sym (sound_marked _ x.some x.code (marks l.seen) (sym c.marked.ensures ∙ c.if-marked.true)) ∙ l.invariant.2
+    let l = c.loop-attribute in
+    let x = came c.args.s.now l.end (l.invariant.1 ∙ c.in-Some.ensures.steps) in
+    sym (sound_marked _ x.some x.code (marks l.seen) (sym c.marked.ensures ∙ c.if-marked.true)) ∙ l.invariant.3
 
-pub mark-requires : goal.mark-requires
-mark-requires c = let n = get_or c.args.s.now (c.loop-size.at + 1) 0 in
-    let word = get_or c.loop-size.seen (n / 64) 0 in
-    (omega arith, bit_clear (word / 2 ^ (n % 64)) (sym c.marked.ensures ∙ c.if-marked.false))
-
-pub overflow_add-at : goal.overflow_add-at
-overflow_add-at c =
-    let x = step c.args.s.now c.loop-size.at c.in-Some.ensures in
+pub overflow_add-end : goal.overflow_add-end
+overflow_add-end c =
+    let l = c.loop-attribute in
+    let x = came c.args.s.now l.end (l.invariant.1 ∙ c.in-Some.ensures.steps) in
     omega arith
 
-pub loop-size-smaller : goal.loop-size-smaller
-loop-size-smaller c =
-    let x = step c.args.s.now c.loop-size.at c.in-Some.ensures in
-    omega arith
-
-pub loop-size-preserved : goal.loop-size-preserved
-loop-size-preserved c =
-    let l = c.loop-size in
-    let x = step c.args.s.now l.at c.in-Some.ensures in
-    let n = get_or c.args.s.now (l.at + 1) 0 in
+pub loop-attribute-preserved : goal.loop-attribute-preserved
+loop-attribute-preserved c =
+    let l = c.loop-attribute in
+    let x = came c.args.s.now l.end (l.invariant.1 ∙ c.in-Some.ensures.steps) in
+    let n = c.in-Some.attribute.code in
     let u : marks l.seen n ≡ false = sym c.marked.ensures ∙ c.if-marked.false in
-    let a = marking_adds l.seen n (rw l.invariant.1 (omega (arith, c.type_inv.s (l.at + 1)))) u in
-    (x.fits, simp length-set l.invariant.1, rw (c.mark.ensures, ← x.next) (sym (sound_next _ x.some x.code a u) ∙ l.invariant.2))
+    let a = marking_adds l.seen n (rw l.invariant.2 (omega arith)) u in
+    (x.fits, x.others, simp length-set l.invariant.2, rw (c.mark.ensures, ← x.next) (sym (sound_next _ x.some x.code a u) ∙ l.invariant.3))
 
 pub returns : goal.returns
-returns c = let l = c.loop-size in
-    sound_stop (marks l.seen) c.args.s.now l.at l.invariant.0 c.in_default.ensures ∙ l.invariant.2
+returns c =
+    let l = c.loop-attribute in
+    let z = none_came c.args.s.now l.end (l.invariant.1 ∙ c.in-None.ensures.steps.0) in
+    sound_stop (marks l.seen) c.args.s.now l.end l.invariant.0 z ∙ l.invariant.3
