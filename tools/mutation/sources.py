@@ -27,7 +27,9 @@ class Source:
             rule = self.text[:place].split()[-2]
             end = text.find("\n\n", place)
             texts[f"crates/{self.crate}/{self.file}"] = text[:end] + definitions_of.with_blank(text[end:], [rule])
-            for path in self.root.glob("crates/*/*/**/*.antt"):
+            # out/ has copies of both folders
+            written = [path for part in ("specs", "proofs") for path in self.root.glob(f"crates/*/{part}/**/*.antt")]
+            for path in written:
                 other = path.read_text()
                 names = definitions_of.own_names(other, self.crate, self.file[len("specs/") : -len(".antt")], rule)
                 if names:
