@@ -38,7 +38,7 @@ pub fn value_in<T: Copy>(rows: &[Row<T>], word: &[u8]) -> Option<T>
     ensures { result ≡ found (table_of rows.now) word.now }
 {
     for (name, value) in rows {
-        if *name == word {
+        if octets::same(word, name) {
             return Some(*value);
         }
     }

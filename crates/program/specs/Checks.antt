@@ -1,5 +1,6 @@
 -- Valid programs as the code decides it, of the record at the front and of records one after another.
-use Rattle.std.specs.Prelude.{ℕ, zero, suc, ◌+◌, ◌-◌, ◌*◌, ◌/◌, ◌%◌, Bool, true, false, not, Option, None, Some, List, length, get_or, drop, eqb, leb, ltb}
+use Rattle.std.specs.Borrow.{Bor}
+use Rattle.std.specs.Prelude.{ℕ, zero, suc, ◌≡◌, ◌+◌, ◌-◌, ◌*◌, ◌/◌, ◌%◌, Bool, true, false, not, Option, None, Some, List, length, get_or, drop, eqb, leb, ltb}
 use Rattle.octets.specs.Choice.{pick, both}
 use Rattle.octets.specs.Numbers.{number_at}
 use Rattle.octets.specs.Rows.{whole}
@@ -96,6 +97,10 @@ right_record l = both (right_fields (fields_in l)) (eqb (number_at l 12 4) 0)
 unfoldable pub each_record : (List ℕ → Bool) → ℕ → List ℕ → Bool
 each_record test zero l = true
 each_record test (suc n) l = both (test l) (each_record test n (drop record_size l))
+
+-- what a function of bytes answers is what a test says
+abbrev pub Decides : (Bor (List ℕ) → Bool → Type 0) → (List ℕ → Bool) → Type 0
+Decides answers test = (s : Bor (List ℕ)) (r : Bool) → answers s r → r ≡ test s.now
 
 -- ---- classes
 

@@ -1,13 +1,13 @@
 // Programs: records of 16 bytes. Whether bytes are a valid program.
 #![tactic(auto)]
 
-ghost use Rattle.std.specs.Prelude.{◌≡◌, ◌/◌, drop, get_or, length};
+ghost use Rattle.std.specs.Prelude.{◌≡◌, ◌/◌, ℕ, Bool, List, drop, get_or, length};
 ghost use Rattle.octets.specs.Rows.{sized, whole};
 ghost use Rattle.octets.specs.Writes.{Written};
 ghost use Rattle.program.specs.Kinds.{kind_is, class_is};
 ghost use Rattle.program.specs.Layout.{record_size, fields_in, laid};
 ghost use Rattle.program.specs.Checks.{right_code, right_path, right_item, right_peer, right_network, right_time, right_bare, right_counted};
-ghost use Rattle.program.specs.Checks.{right_fields, right_record, each_record, is_test_class, is_item, item_stands, items_stand, last_item};
+ghost use Rattle.program.specs.Checks.{right_fields, right_record, each_record, Decides, is_test_class, is_item, item_stands, items_stand, last_item};
 ghost use Rattle.program.specs.Checks.{following_in, follows_in, group_size, lands_well, is_valid};
 
 // The bytes of a record.
@@ -56,7 +56,7 @@ const LAST_ITEM: u32 = 2;
 
 const LAST_NUMBER: u32 = 0;
 
-const LAST_RELATION: u32 = 3;
+pub const LAST_RELATION: u32 = 3;
 
 const LAST_SIDE: u32 = WITHDRAWN;
 
@@ -268,11 +268,27 @@ fn right_record(records: &[u8]) -> bool
     right_fields(fields_at(records, 0)) && octets::number(records, 12, 4) == 0
 }
 
+// Whether a test holds of the bytes from each record on. One test of the length for each record: by places each of its fields takes one.
+fn each_record<F: Fn(&[u8]) -> bool>(program: &[u8], test: F) -> bool
+    requires { F.IsAlwaysCallable test }
+    ensures { (holds : List ℕ → Bool) → Decides (F.post test) holds
+        → result ≡ each_record holds (length program.now / record_size) program.now }
+{
+    let mut rest = program;
+    while RECORD_SIZE <= rest.len() {
+        if !test(rest) {
+            return false;
+        }
+        rest = octets::rest(rest, RECORD_SIZE);
+    }
+    true
+}
+
 // Whether every record is.
 fn all_right(program: &[u8]) -> bool
     ensures { result ≡ each_record right_record (length program.now / record_size) program.now }
 {
-    (0..program.len() / RECORD_SIZE).all(|n| right_record(octets::rest(program, RECORD_SIZE * n)))
+    each_record(program, right_record)
 }
 
 // Whether a record is an item of a variant up to the last that may stand.
@@ -374,7 +390,7 @@ fn lands(records: &[u8]) -> bool
 fn landing(program: &[u8]) -> bool
     ensures { result ≡ each_record lands_well (length program.now / record_size) program.now }
 {
-    (0..program.len() / RECORD_SIZE).all(|n| lands(octets::rest(program, RECORD_SIZE * n)))
+    each_record(program, lands)
 }
 
 // Whether a program begins with a test.

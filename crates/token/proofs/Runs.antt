@@ -4,17 +4,10 @@ use native.Mathlib.Nat.{add-zero}
 use native.Mathlib.Numerals.{add-one}
 use native.Mathlib.Omega.{arith}
 use mathlib.Core.Path.{◌≡◌, refl, sym, ap, ◌∙◌}
-use mathlib.Core.Bool.{Bool, true, false, not, cond}
+use mathlib.Core.Bool.{Bool, true, false}
 use mathlib.Core.List.{List, [], ◌∷◌, ◌++◌}
-use lib.Dec.{ltb}
 use lib.ListN.{length, get_or, take, drop, length-drop, take-append-drop, drop_of_length-le}
 use lib.Seq.{drop-cons, drop-drop, get_or-drop, length-take-le}
-use native.Mathlib.Nat.{lt_of_not-le}
-use native.Mathlib.Decide.{dec_le}
-use borrow.Author.Tests.{lt-ltb, le-ltb}
-use Rattle.std.specs.Prelude.{Some, None, position, unwrap_or}
-use Rattle.std.specs.List.{position_or_len}
-use Rattle.std.proofs.lemmas.List.Recursion.{is_position_or_len}
 use Rattle.octets.specs.Choice.{pick}
 use Rattle.octets.specs.Lists.{Every, every_none, every_more}
 use Rattle.token.specs.Next.{run, run_end}
@@ -29,15 +22,6 @@ module _ (test : ℕ → Bool) where
   run_off : (b : ℕ) (bs : List ℕ) → test b ≡ false → run test (b ∷ bs) ≡ 0
   unfolding run
   run_off b bs e = rw e
-
-  -- it ends at the first byte that doesn't pass
-  run_first : (l : List ℕ) → run test l ≡ position_or_len (λ b. not (test b)) l
-  unfolding run
-  run_first = is_position_or_len (run test) (λ b. not (test b)) refl (λ b bs. go (run test bs) (test b))
-    where
-      go : (n : ℕ) (t : Bool) → pick t (suc n) 0 ≡ cond (not t) 0 (1 + n)
-      go n true = omega arith
-      go n false = refl
 
   -- a run is within the bytes
   pub run_within : (l : List ℕ) → run test l ≤ length l
@@ -104,14 +88,6 @@ module _ (test : ℕ → Bool) where
   run_split text at =
       sym (take-append-drop (run test (drop at text)) (drop at text))
       ∙ ap (λ l. take (run test (drop at text)) (drop at text) ++ l) (drop-drop (run test (drop at text)) at text)
-
-  -- where such a byte is searched for, and the length stands for none
-  pub run_searched : (l : List ℕ) → unwrap_or (position (λ b. not (test b)) l) (length l) ≡ run test l
-  run_searched l = rw (← run_first l) (go (dec_le (length l) (run test l)))
-    where
-      go : Dec (length l ≤ run test l) → unwrap_or (cond (ltb (run test l) (length l)) (Some (run test l)) None) (length l) ≡ run test l
-      go (yes h) = rw (le-ltb _ _ h) (omega (arith, run_within l))
-      go (no h) = rw (lt-ltb _ _ (lt_of_not-le h))
 
   -- as many as they are
   pub run_long : (l : List ℕ) → length (take (run test l) l) ≡ run test l

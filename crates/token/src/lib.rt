@@ -57,20 +57,24 @@ fn inner(b: u8) -> bool
     b != b'\''
 }
 
-// Whether a text may have a byte.
+// Whether a text may have a byte. By comparisons: with matches! a scan takes several times as long.
 fn permitted(b: u8) -> bool
     ensures { result ≡ allowed b }
 {
-    matches!(b, b'\t' | b'\n' | FIRST_PRINTED..=LAST_PRINTED)
+    b == b'\t' || b == b'\n' || (FIRST_PRINTED..=LAST_PRINTED).contains(&b)
 }
 
-// Where the bytes from a place on that pass a test end.
+// Where the bytes from a place on that pass a test end. By places: on short runs, as most are, position over the rest takes longer.
 fn run_end<F: Fn(u8) -> bool>(text: &[u8], at: usize, passes: F) -> usize
     requires { F.IsAlwaysCallable passes }
     ensures { (test : ℕ → Bool) → Computes (F.post passes) test → result ≡ run_end test text.now at }
 {
-    let tail = octets::rest(text, at);
-    at + tail.iter().position(|b| !passes(*b)).unwrap_or(tail.len())
+    for n in at..text.len() {
+        if !passes(text[n]) {
+            return n;
+        }
+    }
+    at.max(text.len())
 }
 
 // Where the blanks from a place on end.

@@ -2,7 +2,7 @@
 use Prim.Native.Nat.{ℕ}
 use Rattle.std.specs.Prelude.{Option, Some, None, is_some}
 use Rattle.std.specs.Iterator.{YieldsFirstBy}
-use mathlib.Core.Path.{◌≡◌, refl, sym}
+use mathlib.Core.Path.{◌≡◌, refl, sym, ◌∙◌}
 use mathlib.Core.Bool.{Bool, true, false, not}
 use mathlib.Core.List.{List, [], ◌∷◌}
 use Rattle.octets.proofs.Choices.{never}
@@ -10,12 +10,13 @@ use Rattle.aspath.specs.declared.Cursor.{Cursor}
 use Rattle.aspath.specs.declared.Item.{Item}
 use Rattle.aspath.specs.declared.Members.{Members}
 use Rattle.aspath.specs.Members.{Member, member_of}
+use Rattle.aspath.specs.Wire.{width_bytes}
 use Rattle.aspath.specs.Cursors.{remaining, next_at, left}
 use Rattle.aspath.specs.Patterns.{fits, matches_here, matches_some, matches}
 use Rattle.program.specs.declared.Fields.{Fields}
 use Rattle.program.specs.Layout.{is_start, is_end}
 use Rattle.aspath.proofs.Cursors.{member_view, end_view}
-use Rattle.truth.specs.Matching.{matches_at, pattern_of}
+use Rattle.truth.specs.Matching.{matches_at, matches_from, pattern_of}
 
 module _ (m after : Members) where
   -- a step that gives nothing had nothing left
@@ -77,6 +78,11 @@ at_members end w s (i ∷ is) c = go (next_at w s c) refl (at_members end w s is
         → matches_at end (i ∷ is) w s c ≡ matches_here end (i ∷ is) (remaining w s c)
     go (Some x) e ih = rw (e, member_view w s c e, ih x.1) refl
     go None e ih = rw (e, end_view w s c e) refl
+
+-- so what is told of the members that an iterator has left is told by the cursor that it holds
+pub by_cursor : (end : Bool) (is : List Item) (m : Members) {r : Bool} → r ≡ matches_here end is (left m)
+    → (r ≡ matches_here end is (left m)) × (r ≡ matches_from end is m)
+by_cursor end is m h = (h, h ∙ sym (at_members end (width_bytes m.width) m.body.now is m.place))
 
 -- ---- from some place on
 

@@ -3,6 +3,8 @@ use Rattle.std.specs.Prelude.{ℕ, ◌+◌, ◌*◌, Bool, true, false, List, []
 use Rattle.octets.specs.Choice.{pick, both, otherwise}
 use Rattle.aspath.specs.declared.Item.{Item}
 use Rattle.aspath.specs.declared.Cursor.{Cursor}
+use Rattle.aspath.specs.declared.Members.{Members}
+use Rattle.aspath.specs.Wire.{width_bytes}
 use Rattle.aspath.specs.Members.{Member, member_of}
 use Rattle.aspath.specs.Cursors.{next_at}
 use Rattle.aspath.specs.Loops.{has_loop}
@@ -55,6 +57,10 @@ ends_at n = on_next n (λ m after. false) true
 unfoldable pub matches_at : Bool → List Item → ℕ → List ℕ → Cursor → Bool
 matches_at end [] w path c = pick end (ends_at (next_at w path c)) true
 matches_at end (i ∷ is) w path c = on_next (next_at w path c) (λ m after. both (fits i m) (matches_at end is w path after)) false
+
+-- the same from where the code's iterator stands
+abbrev pub matches_from : Bool → List Item → Members → Bool
+matches_from end is m = matches_at end is (width_bytes m.width) m.body.now m.place
 
 -- the pattern of a path record and its items
 abbrev pub pattern_of : Fields → List Item → Pattern

@@ -19,7 +19,7 @@ ghost use Rattle.program.specs.Layout.{relation_is, is_start, is_end, fields_in,
 ghost use Rattle.program.specs.Checks.{last_variant, number_variant, is_item, items_stand};
 ghost use Rattle.truth.specs.Means.{if_any, some_prefix};
 ghost use Rattle.truth.specs.Records.{truth_at};
-ghost use Rattle.truth.specs.Matching.{peer_test, time_test, network_test, items_in, numbers_in, path_matches, path_test};
+ghost use Rattle.truth.specs.Matching.{peer_test, time_test, network_test, items_in, numbers_in, matches_from, path_matches, path_test};
 ghost use Rattle.truth.specs.Matching.{communities_test};
 
 use aspath::{Item, Members, Width};
@@ -131,7 +131,8 @@ fn item_at(records: &[u8], at: usize) -> Item
 // Whether the items match the members that are left, up to the last where end.
 fn matches_here(records: &[u8], count: u32, end: bool, from: Members) -> bool
     requires { items_stand last_variant count records.now ≡ true }
-    ensures { result ≡ matches_here end (items_in count records.now) (left from.entry) }
+    ensures { (result ≡ matches_here end (items_in count records.now) (left from.entry))
+        × (result ≡ matches_from end (items_in count records.now) from.entry) }
 {
     let mut path = from;
     for n in 0..count {

@@ -5,11 +5,11 @@ use Rattle.names.specs.Tables.{found}
 use Rattle.names.proofs.Held.{here, further}
 use Rattle.names.proofs.value_in.Goals as goal
 
-pub returns-then-eq : goal.returns-then-eq
-returns-then-eq g c = sym (c.loop-name.invariant ∙ here _ _ _ _ c.loop-name-test.true c.loop-name-item.is c.eq.ensures c.if-eq.true)
+pub returns-then-same : goal.returns-then-same
+returns-then-same g c = sym (c.loop-name.invariant ∙ here _ _ _ _ c.loop-name-test.true c.loop-name-item.is c.same.ensures c.if-same.true)
 
 pub loop-name-preserved : goal.loop-name-preserved
-loop-name-preserved g c = c.loop-name.invariant ∙ further _ _ _ _ c.loop-name-test.true c.loop-name-item.is c.eq.ensures c.if-eq.false
+loop-name-preserved g c = c.loop-name.invariant ∙ further _ _ _ _ c.loop-name-test.true c.loop-name-item.is c.same.ensures c.if-same.false
 
 pub returns : goal.returns
 unfolding found

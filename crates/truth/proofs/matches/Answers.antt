@@ -44,7 +44,7 @@ returns-then-is_start c = let a = c.args in
       told a.f a.behind.now path _ (omega arith) follow c.following-count.ensures,
       pinned a.f _ path start,
       ← c.is_end-end.ensures,
-    ) c.matches_here.ensures
+    ) c.matches_here.ensures.0
 
 pub matches_some-requires : goal.matches_some-requires
 matches_some-requires c = let a = c.args in

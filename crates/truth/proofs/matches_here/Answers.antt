@@ -15,7 +15,7 @@ use Rattle.program.specs.Checks.{last_variant}
 use Rattle.truth.specs.Records.{item_of}
 use Rattle.truth.specs.Matching.{items_in}
 use Rattle.truth.proofs.ItemReads.{finds_items, one_read, each_none, Next, next_left, passed_next}
-use Rattle.truth.proofs.PathReads.{here_all, here_last, here_end, here_other, here_next}
+use Rattle.truth.proofs.PathReads.{here_all, here_last, here_end, here_other, here_next, by_cursor}
 use Rattle.truth.proofs.matches_here.Goals as goal
 
 -- whether all match is whether those left do
@@ -35,7 +35,7 @@ pub returns-in_default : goal.returns-in_default
 returns-in_default c = let a = c.args in
     let l = c.loop-n in
     let h = next_left finds_items {n = l.n} {count = a.count} (drop (record_size * l.n) a.records.now) (omega arith) l.invariant.0 in
-    sym (here_end a.end _ _) ∙ whole a.end l.invariant.1 h.all c.in_default.ensures.steps.0
+    by_cursor a.end _ a.from (sym (here_end a.end _ _) ∙ whole a.end l.invariant.1 h.all c.in_default.ensures.steps.0)
 
 pub item_at-requires : goal.item_at-requires
 item_at-requires c = let a = c.args in
@@ -47,8 +47,8 @@ pub returns-then-not-takes : goal.returns-then-not-takes
 returns-then-not-takes c = let a = c.args in
     let l = c.loop-n in
     let h = next_left finds_items {n = l.n} {count = a.count} (drop (record_size * l.n) a.records.now) (omega arith) l.invariant.0 in
-    sym (here_other a.end _ _ _ _ (sym c.takes.ensures ∙ c.if-not-takes.true))
-    ∙ whole a.end l.invariant.1 (stands h c.item_at.ensures) c.in-Some.ensures.steps
+    by_cursor a.end _ a.from (sym (here_other a.end _ _ _ _ (sym c.takes.ensures ∙ c.if-not-takes.true))
+    ∙ whole a.end l.invariant.1 (stands h c.item_at.ensures) c.in-Some.ensures.steps)
 
 pub loop-n-preserved : goal.loop-n-preserved
 loop-n-preserved c = let a = c.args in
@@ -62,11 +62,11 @@ loop-n-preserved c = let a = c.args in
 pub returns-then-not-end : goal.returns-then-not-end
 returns-then-not-end c = let a = c.args in
     let l = c.loop-n in
-    ap not c.if-not-end.true ∙ sym (here_all a.end _ c.if-not-end.true)
-    ∙ whole a.end l.invariant.1 (none _ (drop (record_size * l.n) a.records.now) (omega arith)) refl
+    by_cursor a.end _ a.from (ap not c.if-not-end.true ∙ sym (here_all a.end _ c.if-not-end.true)
+    ∙ whole a.end l.invariant.1 (none _ (drop (record_size * l.n) a.records.now) (omega arith)) refl)
 
 pub returns-else-not-end : goal.returns-else-not-end
 returns-else-not-end c = let a = c.args in
     let l = c.loop-n in
-    here_last l.path c.next-else-not-end.new.self a.end c.next-else-not-end.result _ c.if-not-end.false c.next-else-not-end.ensures.steps c.is_none.ensures
-    ∙ whole a.end l.invariant.1 (none _ (drop (record_size * l.n) a.records.now) (omega arith)) refl
+    by_cursor a.end _ a.from (here_last l.path c.next-else-not-end.new.self a.end c.next-else-not-end.result _ c.if-not-end.false c.next-else-not-end.ensures.steps c.is_none.ensures
+    ∙ whole a.end l.invariant.1 (none _ (drop (record_size * l.n) a.records.now) (omega arith)) refl)
